@@ -1,0 +1,158 @@
+-- What the check reads from the lent cells is what the rules' records say. Assumes nothing.
+use Prim.Native.Nat.{ℕ, suc, _+_, _-_, _*_, _<_, _≤_}
+use native.Mathlib.Omega.{arith}
+use native.Mathlib.Numerals.{add-one}
+use mathlib.Core.Path.{_≡_, refl, sym, ap, _∙_}
+use mathlib.Core.Bool.{Bool, true, false, cond, not, _&&_, false≢true}
+use mathlib.Core.List.{List, [], _∷_, _++_, append-assoc}
+use lib.IntN.{ℤ, pos}
+use lib.ListN.{length, getD, drop, length-append, take-append-drop}
+use lib.Dec.{leb}
+use borrow.Author.Tests.{lt-ltb, le-ltb, eq-eqb, ne-eqb, leb-true, leb-false}
+use Rattle.rules.specs.Limits.{noteSize, pitchCapacity, markCapacity}
+use Rattle.rules.specs.Records.{isEmpty, Note, Bar, notesOf}
+use Rattle.rules.specs.Rules.{State, endsInNote, joins, isTimed, timedIn, notesFrom, repeatedBar}
+use Rattle.rules.specs.Refusals as rules
+use Rattle.rules.specs.Refusals.{isFull, isMarkedFull}
+use Rattle.rules.specs.Words.{cells, zeros, noteWords}
+use Rattle.records.specs.Cells.{natural, recordAt}
+use Rattle.records.specs.Notes.{numberAt, kindAt, markCountAt, marksAt, pitchCountAt, markLimit, HasRoom}
+use Rattle.records.specs.Groups.{timedAt, timedCount, lastTimed}
+use Rattle.records.proofs.CellLaws.{record-read, word-read}
+use Rattle.records.proofs.NoteLaws.{mark-fits, marks-fit}
+use Rattle.records.proofs.GroupLaws.{wordsIn, length-in, timed-none, last-more}
+use Rattle.records.proofs.StoredLaws.{storedIn, last-word, part-cells, part-timed, length-part}
+use Rattle.values.specs.declared.pae.Voice.{Voice}
+use Rattle.values.specs.declared.pae.Counts.{Counts}
+use Rattle.values.specs.declared.pae.Groups.{Groups}
+use Rattle.steps.specs.State.{hasContent, openLength, repeatedCount}
+use Rattle.steps.specs.Notes.{lastField, endsOf, joinsOf}
+use Rattle.steps.specs.Relation.{Voiced, Stored}
+use Rattle.checks.specs.Checks.{groupCells, groupSize, fermataRecord}
+
+-- a record of fewer than 8 marks has room for one more
+room-in : (b : ℕ) (n : Note) → numberAt markCountAt (wordsIn b n) < markCapacity → HasRoom (wordsIn b n)
+room-in b n h = let ms = n .notations .marks in (h, omega (arith, marks-fit ms, mark-fits true (length ms) h))
+
+module _ {size : ℕ} {bs : List Bar} {c : Counts} {l : List ℤ} where
+  -- ---- counts
+
+  pub content : (ns : List Note) → Stored size ns bs c l → not (isEmpty ns) ≡ hasContent c
+  content [] q = sym (le-ltb (c .first) (c .notes) (omega arith))
+  content (n ∷ ns) q = sym (lt-ltb (c .first) (c .notes) (omega arith))
+
+  pub open-length : (ns : List Note) → Stored size ns bs c l → length ns ≡ openLength c
+  open-length ns q = omega arith
+
+  pub stored-count : (ns : List Note) → Stored size ns bs c l → length (ns ++ notesOf bs) ≡ c .notes
+  stored-count ns q = rw length-append (sym (q .count))
+
+  -- ---- the last record
+
+  pub last-field : {n : Note} {ns : List Note} → Stored size (n ∷ ns) bs c l → (k : ℕ) → k < noteSize → lastField k c l ≡ numberAt k (wordsIn (suc (length bs)) n)
+  last-field {n} {ns} q k h =
+      let e : c .notes - 1 ≡ length ns + length (notesOf bs) = omega arith in
+      (λ i. natural (getD (q .written i) (e i * noteSize + k) (pos 0))) ∙ ap natural (last-word size ns bs n k h)
+
+  -- it is no rest
+  pub ends-agrees : (ns : List Note) → Stored size ns bs c l → endsInNote ns ≡ endsOf c l
+  ends-agrees [] q = rw (← content [] q)
+  ends-agrees (n ∷ ns) q = rw (← content (n ∷ ns) q, last-field q kindAt (omega arith))
+
+  -- 9
+  pub full-agrees : (ns : List Note) → Stored size ns bs c l → endsInNote ns ≡ true → isFull ns ≡ leb pitchCapacity (lastField pitchCountAt c l)
+  full-agrees [] q e = absurd (false≢true e)
+  full-agrees (n ∷ ns) q e = ap (leb pitchCapacity) (sym (last-field q pitchCountAt (omega arith)))
+
+  -- 10 at `t`
+  pub marked-agrees : (ns : List Note) → Stored size ns bs c l → isMarkedFull ns ≡ hasContent c && leb markCapacity (lastField markCountAt c l)
+  marked-agrees [] q = rw (← content [] q)
+  marked-agrees (n ∷ ns) q = rw (← content (n ∷ ns) q, last-field q markCountAt (omega arith))
+
+  -- one more mark fits
+  pub last-room : (ns : List Note) → Stored size ns bs c l → hasContent c ≡ true → lastField markCountAt c l < markCapacity → lastField marksAt c l < markLimit
+  last-room [] q e h = absurd (false≢true (content [] q ∙ e))
+  last-room (n ∷ ns) q e h = rw (last-field q marksAt (omega arith)) (room-in (suc (length bs)) n (rw (last-field q markCountAt (omega arith)) at h) .1)
+
+-- whether a letter joins
+pub joins-agrees : {v : Voice} {s : State} {size : ℕ} {c : Counts} {l : List ℤ} → Voiced v s → Stored size (s .openBar) (s .bars) c l → joins s ≡ joinsOf v c l
+joins-agrees {s = s} voiced q = rw (voiced .chord, ends-agrees (s .openBar) q)
+
+-- how many records `i` copies
+pub repeated-agrees : {size : ℕ} {c : Counts} {l : List ℤ} (ns : List Note) (bs : List Bar) → Stored size ns bs c l → length (repeatedBar ns bs) ≡ repeatedCount c
+repeated-agrees {c = c} (n ∷ ns) bs q = rw (← content (n ∷ ns) q)
+repeated-agrees {c = c} [] [] q = rw (← content [] q, eq-eqb (c .bars) 0 (q .bars))
+repeated-agrees {c = c} [] (b ∷ bs) q =
+    let e = length-append (b .notes) (notesOf bs) in
+    rw (← content [] q, ne-eqb (c .bars) 0 (λ z. omega arith)) (omega (arith, q .first, q .last))
+
+-- ---- the record that gets a fermata
+
+-- `words` are those of the first of `ns`
+data First (b : ℕ) (ns : List Note) (words : List ℤ) : Type 0 where
+  first : (n : Note) (more : List Note) → ns ≡ n ∷ more → words ≡ wordsIn b n → First b ns words
+
+module _ (b : ℕ) (zs : List ℤ) where
+  timed-read : (l : List ℤ) (p : List Note) (n : Note) (q : List Note) → l ≡ cells (wordsIn b) (p ++ n ∷ q) ++ zs → timedAt l (length q) ≡ isTimed n
+  timed-read l p n q e = rw (e, word-read (wordsIn b) noteSize (length-in b) p n q zs kindAt (omega arith))
+
+  abbrev LastAt : List ℤ → ℕ → List Note → Type 0
+  LastAt l number ns = First b ns (recordAt noteSize l number)
+
+  last-one : (l : List ℤ) (p : List Note) (n : Note) (q r : List Note) → l ≡ cells (wordsIn b) (p ++ n ∷ q) ++ zs → (t : Bool) → 0 < cond t (suc (timedIn q)) (timedIn q)
+      → (0 < timedIn q → LastAt l (lastTimed l (length q)) (rules.lastTimed (q ++ r))) → LastAt l (cond t (length q) (lastTimed l (length q))) (cond t (n ∷ q ++ r) (rules.lastTimed (q ++ r)))
+  last-one l p n q r e true h k = first n (q ++ r) refl (rw e (record-read (wordsIn b) noteSize (length-in b) p n q zs))
+  last-one l p n q r e false h k = k h
+
+  last-read : (l : List ℤ) (p q r : List Note) → l ≡ cells (wordsIn b) (p ++ q) ++ zs → 0 < timedIn q → LastAt l (lastTimed l (length q)) (rules.lastTimed (q ++ r))
+  last-read l p [] r e h = absurd (omega arith)
+  last-read l p (n ∷ q) r e h =
+      let more : lastTimed l (suc (length q)) ≡ cond (isTimed n) (length q) (lastTimed l (length q)) = rw (← add-one (length q), last-more, timed-read l p n q e) in
+      rw more (last-one l p n q r e (isTimed n) h (last-read l (p ++ n ∷ []) q r (rw (append-assoc p (n ∷ []) q) e)))
+
+first-marked : {b : ℕ} {ns : List Note} {words : List ℤ} → First b ns words → isMarkedFull ns ≡ leb markCapacity (numberAt markCountAt words)
+first-marked (first n more e f) = rw (e, f)
+
+first-room : {b : ℕ} {ns : List Note} {words : List ℤ} → First b ns words → numberAt markCountAt words < markCapacity → HasRoom words
+first-room {b} (first n more e f) h = rw f (room-in b n (rw f at h))
+
+-- a start with non-grace records behind it is within the open bar
+some-inside : (start : ℕ) (ns : List Note) → 0 < timedIn (notesFrom start ns) → start ≤ length ns
+some-inside start ns h = go (leb start (length ns)) refl
+  where
+    go : (t : Bool) → leb start (length ns) ≡ t → start ≤ length ns
+    go true e = leb-true start (length ns) e
+    go false e = let k = leb-false start (length ns) e in let z : length ns - start ≡ 0 = omega arith in absurd (let y = rw z at h in omega arith)
+
+module _ {size : ℕ} {ns : List Note} {bs : List Bar} {c : Counts} {l : List ℤ} (q : Stored size ns bs c l) (g : Groups) where
+  abbrev part : List Note
+  part = notesFrom (g .paren .length) ns
+
+  group-size : groupSize g c ≡ length ns - g .paren .length
+  group-size = omega arith
+
+  -- the open group's non-grace records
+  pub group-timed : timedCount (groupCells g c l) (groupSize g c) ≡ timedIn part
+  group-timed = go (leb (g .paren .length) (length ns)) refl
+    where
+      go : (t : Bool) → leb (g .paren .length) (length ns) ≡ t → timedCount (groupCells g c l) (groupSize g c) ≡ timedIn part
+      go true e = (λ i. timedCount (drop ((q .first i + g .paren .length) * noteSize) (q .written i)) (group-size i)) ∙ part-timed size ns bs (g .paren .length) (leb-true (g .paren .length) (length ns) e)
+      go false e =
+          let k = leb-false (g .paren .length) (length ns) e in
+          let z : length ns - g .paren .length ≡ 0 = omega arith in
+          rw (group-size, z, timed-none)
+
+  fermata-first : 0 < timedIn part → First (suc (length bs)) (rules.lastTimed ns) (fermataRecord (groupCells g c l) (groupSize g c))
+  fermata-first h =
+      let inside = some-inside (g .paren .length) ns h in
+      let zs = zeros (size - length (cells noteWords (storedIn ns bs))) in
+      let held : groupCells g c l ≡ cells (wordsIn (suc (length bs))) part ++ zs = (λ i. drop ((q .first i + g .paren .length) * noteSize) (q .written i)) ∙ part-cells size ns bs (g .paren .length) inside in
+      rw (length-part size ns bs (g .paren .length) inside, ← group-size, take-append-drop) at (last-read (suc (length bs)) zs (groupCells g c l) [] part (drop (length ns - g .paren .length) ns) held h)
+
+  -- 10 at `)`
+  pub fermata-agrees : 0 < timedIn part → isMarkedFull (rules.lastTimed ns) ≡ leb markCapacity (numberAt markCountAt (fermataRecord (groupCells g c l) (groupSize g c)))
+  fermata-agrees h = first-marked (fermata-first h)
+
+  -- one more mark fits
+  pub fermata-room : 0 < timedIn part → numberAt markCountAt (fermataRecord (groupCells g c l) (groupSize g c)) < markCapacity → HasRoom (fermataRecord (groupCells g c l) (groupSize g c))
+  fermata-room h = first-room (fermata-first h)

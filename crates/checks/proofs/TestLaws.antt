@@ -1,0 +1,81 @@
+-- What tests on the program's values say. Assumes nothing.
+use Prim.Native.Nat.{ℕ, zero, suc, _+_, _-_, _*_, _<_, _≤_}
+use native.Mathlib.Omega.{arith}
+use native.Mathlib.Nat.{add-mul, add-assoc}
+use mathlib.Core.Path.{_≡_, refl}
+use mathlib.Core.Bool.{Bool, true, false, cond, _&&_, false≢true}
+use mathlib.Core.Option.{Option, none, some}
+use mathlib.Core.List.{List}
+use lib.IntN.{ℤ, pos}
+use lib.ListN.{getD, drop}
+use lib.Seq.{getD-take, getD-drop}
+use lib.Dec.{eqb, ltb}
+use borrow.Author.Tests.{ltb-true, ne-eqb}
+use Rattle.rules.specs.Rules as rules
+use Rattle.rules.specs.Rules.{closing, tupletOf}
+use Rattle.rules.specs.Refusals.{isFermata}
+use Rattle.records.specs.Cells.{recordAt}
+use Rattle.records.specs.Groups.{lastTimed}
+use Rattle.records.proofs.GroupLaws.{last-below}
+use Rattle.values.specs.declared.pae.Voice.{Voice}
+use Rattle.values.specs.declared.pae.Counts.{Counts}
+use Rattle.steps.specs.State.{hasContent, repeatedCount}
+use Rattle.steps.specs.Notes.{endsOf, joinsOf}
+use Rattle.steps.specs.Relation.{countIn}
+
+pub and-first : (a b : Bool) → a && b ≡ true → a ≡ true
+and-first true b e = refl
+and-first false b e = absurd (false≢true e)
+
+pub and-second : (a b : Bool) → a && b ≡ true → b ≡ true
+and-second true b e = e
+and-second false b e = absurd (false≢true e)
+
+-- a letter that joins has a record to join
+pub joins-some : (v : Voice) (c : Counts) (l : List ℤ) → joinsOf v c l ≡ true → 0 < c .notes
+joins-some v c l e = let h = ltb-true (c .first) (c .notes) (and-first (hasContent c) _ (and-second (v .chord) (endsOf c l) e)) in omega arith
+
+-- `i` copies at most what is stored
+pub repeated-small : (c : Counts) → c .first ≤ c .notes → repeatedCount c ≤ c .notes
+repeated-small c h = go (hasContent c) (eqb (c .bars) 0)
+  where
+    go : (a b : Bool) → cond a 0 (cond b 0 (c .first - c .last)) ≤ c .notes
+    go true b = omega arith
+    go false true = omega arith
+    go false false = omega arith
+
+-- ---- a fermata
+
+plain-tuplet : (actual : ℕ) → false ≡ isFermata (tupletOf actual)
+plain-tuplet actual = go (ltb actual 3)
+  where
+    go : (b : Bool) → false ≡ isFermata (cond b (rules.tooFew actual) (rules.tuplet actual))
+    go true = refl
+    go false = refl
+
+-- one non-grace record and no count
+pub fermata-test : (timed count : ℕ) → eqb timed 1 && eqb count 256 ≡ isFermata (closing timed (countIn count))
+fermata-test timed count = go timed (eqb count 256)
+  where
+    go : (timed : ℕ) (b : Bool) → eqb timed 1 && b ≡ isFermata (closing timed (cond b none (some count)))
+    go zero b = refl
+    go (suc zero) true = refl
+    go (suc zero) false = plain-tuplet count
+    go (suc (suc timed)) true = rw (ne-eqb (suc (suc timed)) 1 (λ z. omega arith)) (plain-tuplet 3)
+    go (suc (suc timed)) false = rw (ne-eqb (suc (suc timed)) 1 (λ z. omega arith)) (plain-tuplet count)
+
+-- a fermata has its record
+pub fermata-some : (timed : ℕ) (count : Option ℕ) → isFermata (closing timed count) ≡ true → 0 < timed
+fermata-some zero count e = absurd (false≢true e)
+fermata-some (suc timed) count e = omega arith
+
+-- ---- cells
+
+-- a word of a record in a part of the cells
+pub part-word : (size : ℕ) (l : List ℤ) (from n k : ℕ) → k < size → getD (recordAt size (drop (from * size) l) n) k (pos 0) ≡ getD l ((from + n) * size + k) (pos 0)
+unfolding recordAt
+part-word size l from n k h = rw (getD-take, getD-drop, getD-drop, add-mul, add-assoc)
+
+-- the last non-grace record is one of the part
+pub last-inside : (l : List ℤ) (n : ℕ) {last : ℕ} → last ≡ lastTimed l n → 0 < n → last < n
+last-inside l n e h = rw e (last-below l n n (omega arith) h)

@@ -1,0 +1,11 @@
+pub mod Runs
+pub mod WordLaws
+pub mod CellLaws
+pub mod NoteLaws
+pub mod CopyLaws
+pub mod BarLaws
+pub mod DiagnosticLaws
+pub mod GroupLaws
+pub mod RenotedLaws
+pub mod StoredLaws
+pub mod MarkingLaws

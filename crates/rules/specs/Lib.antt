@@ -1,0 +1,14 @@
+pub mod Limits
+pub mod Text
+pub mod Cut
+pub mod Values
+pub mod Tokens
+pub mod Records
+pub mod Rules
+pub mod Diagnostics
+pub mod Fields
+pub mod Refusals
+pub mod Words
+pub mod Reading
+pub mod LookBack
+pub mod Agreement

@@ -1,0 +1,130 @@
+-- Where a reading can stop (01's table), in its order. Assumes nothing.
+use Prim.Native.Nat.{ℕ, _+_, _-_}
+use mathlib.Core.Bool.{Bool, true, false, not, cond, _&&_}
+use mathlib.Core.Option.{Option, none, some}
+use mathlib.Core.List.{List, [], _∷_}
+use lib.ListN.{length}
+use lib.Dec.{leb, ltb}
+use Rattle.rules.specs.Limits.{textLimit, noteLimit, diagnosticLimit, pitchCapacity, markCapacity}
+use Rattle.rules.specs.Text.{isBlank, every, has, Part}
+use Rattle.rules.specs.Tokens.{Figure, figureMark, figureRepeat, barRepeat, Marking, beamOpen, beamClose, groupOpen, groupClose, groupCount, tie, trill, Token, Item, itemsOf, letterIn, isBarline, figureIn, markingIn, isMeasureRest}
+use Rattle.rules.specs.Records.{_or_, isSome, given, isEmpty, Note}
+use Rattle.rules.specs.Rules.{State, Attributes, Closing, nothing, fermata, tuplet, tooFew, closingOf, isTimed, stores, joins, stateAfter, stored}
+use Rattle.rules.specs.Fields.{fieldsOf, dataOf}
+
+-- how many whole records are lent for notes, bars and the figure, and how many diagnostic cells
+pub record Limits : Type 0 where
+  pub notes : ℕ
+  pub bars : ℕ
+  pub figure : ℕ
+  pub diagnostics : ℕ
+
+pub record Refusal : Type 0 where
+  pub number : ℕ
+  pub place : ℕ
+
+abbrev pub refusal : ℕ → ℕ → Refusal
+refusal number place = record { number = number; place = place }
+
+-- a check: its number, and whether it fails
+abbrev pub Check : Type 0
+Check = ℕ × Bool
+
+-- checks run in table order
+abbrev pub firstFailing : List Check → Option ℕ
+firstFailing [] = none
+firstFailing (c ∷ cs) = cond (c .1) (some (c .0)) (firstFailing cs)
+
+-- ---- at the entry and in the fields: place 0
+
+abbrev pub textChecks : List ℕ → Limits → List Check
+textChecks text lent =
+    (1, ltb textLimit (length text))
+    ∷ (2, ltb (lent .diagnostics) diagnosticLimit)
+    ∷ (3, has (leb 128) text)
+    ∷ (4, every isBlank text)
+    ∷ (5, not (isSome (fieldsOf text .dataValue)))
+    ∷ []
+
+abbrev pub textRefusal : List ℕ → Limits → Option Refusal
+textRefusal text lent = given (firstFailing (textChecks text lent)) none (λ n. some (refusal n 0))
+
+-- ---- at a token: its data place
+
+-- 9: the note has 8 pitches
+abbrev pub isFull : List Note → Bool
+isFull [] = false
+isFull (n ∷ ns) = leb pitchCapacity (length (n .pitches))
+
+-- 10: the note has 8 marks
+abbrev pub isMarkedFull : List Note → Bool
+isMarkedFull [] = false
+isMarkedFull (n ∷ ns) = leb markCapacity (length (n .notations .marks))
+
+-- the records up to the last non-grace one
+abbrev pub lastTimed : List Note → List Note
+lastTimed [] = []
+lastTimed (n ∷ ns) = cond (isTimed n) (n ∷ ns) (lastTimed ns)
+
+abbrev pub isFermata : Closing → Bool
+isFermata nothing = false
+isFermata fermata = true
+isFermata (tuplet actual) = false
+isFermata (tooFew actual) = false
+
+-- a trill marks the last record, a fermata its group's one non-grace record
+abbrev pub overMarks : Marking → State → Bool
+overMarks beamOpen s = false
+overMarks beamClose s = false
+overMarks groupOpen s = false
+overMarks groupClose s = given (s .group) false (λ g. isFermata (closingOf g s) && isMarkedFull (lastTimed (s .openBar)))
+overMarks tie s = false
+overMarks trill s = isMarkedFull (s .openBar)
+overMarks (groupCount c) s = false
+
+-- 11: the figure passes the lent figure records
+abbrev pub overFigure : ℕ → Figure → State → Bool
+overFigure lent figureMark s = given (s .figureStart) false (λ start. leb start (length (s .openBar)) && ltb lent (length (s .openBar) - start))
+overFigure lent figureRepeat s = false
+overFigure lent barRepeat s = false
+
+-- 12: the bar to store passes the lent bar records
+abbrev pub overBars : Limits → State → Bool
+overBars lent s = not (isEmpty (s .openBar)) && leb (lent .bars) (length (s .bars))
+
+-- storing notes: `added` records would pass the limit
+abbrev pub passes : ℕ → ℕ → State → Bool
+passes limit added s = ltb 0 added && ltb limit (length (stored s) + added)
+
+abbrev pub tokenChecks : Limits → Token → State → List Check
+tokenChecks lent t s = let added = length (stores 0 t s) in
+    (6, isMeasureRest t)
+    ∷ (7, passes noteLimit added s)
+    ∷ (8, passes (lent .notes) added s)
+    ∷ (9, isSome (letterIn t) && joins s && isFull (s .openBar))
+    ∷ (10, given (markingIn t) false (λ m. overMarks m s))
+    ∷ (11, given (figureIn t) false (λ f. overFigure (lent .figure) f s))
+    ∷ (12, isBarline t && overBars lent s)
+    ∷ []
+
+abbrev pub tokenRefusal : Limits → Token → State → Option ℕ
+tokenRefusal lent t s = firstFailing (tokenChecks lent t s)
+
+-- within data, at each token from the left
+unfoldable pub tokensRefusal : Limits → Attributes → List Item → Option Refusal
+tokensRefusal lent k [] = none
+tokensRefusal lent k (x ∷ before) = tokensRefusal lent k before or given (tokenRefusal lent (x .token) (stateAfter k before)) none (λ n. some (refusal n (x .place)))
+
+-- ---- at the end and after the data
+
+-- 12 at the end, data length plus 1; 13, no note or rest stored
+abbrev pub endRefusal : Limits → ℕ → State → Option Refusal
+endRefusal lent size s = cond (overBars lent s) (some (refusal 12 (size + 1))) (cond (isEmpty (stored s)) (some (refusal 13 0)) none)
+
+abbrev pub dataRefusal : Limits → Attributes → Part → Option Refusal
+dataRefusal lent k d = tokensRefusal lent k (itemsOf d) or endRefusal lent (length (d .bytes)) (stateAfter k (itemsOf d))
+
+-- ---- the whole
+
+unfoldable pub refusalOf : List ℕ → Limits → Option Refusal
+refusalOf text lent = textRefusal text lent or dataRefusal lent (fieldsOf text .attributes) (dataOf text)

@@ -1,0 +1,1 @@
+// How the reading stands to the rules, token by token, in proofs/: no code.

@@ -1,0 +1,4 @@
+-- Laws that the proofs cite.
+pub mod TableLaws
+pub mod StoredBar
+pub mod BarLaws

@@ -1,0 +1,145 @@
+-- Changes of the reading state, part by part; over the program's own types. Assumes nothing.
+use Prim.Native.Nat.{ℕ, _+_, _-_}
+use mathlib.Core.Bool.{Bool, true, false, cond}
+use mathlib.Core.List.{List}
+use lib.IntN.{ℤ, pos}
+use lib.ListN.{length}
+use lib.Dec.{eqb, leb, ltb}
+use Rattle.rules.specs.Values.{clefOf, keyOf, meterOf, countOf}
+use Rattle.rules.specs.Records.{given}
+use Rattle.values.specs.declared.pae.Attributes.{Attributes}
+use Rattle.values.specs.declared.pae.Voice.{Voice}
+use Rattle.values.specs.declared.pae.Counts.{Counts}
+use Rattle.values.specs.declared.pae.Start.{Start}
+use Rattle.values.specs.declared.pae.Groups.{Groups}
+use Rattle.values.specs.declared.pae.Pae.{Pae}
+use Rattle.values.specs.declared.rhythm.Octave.{Octave}
+use Rattle.values.specs.declared.rhythm.Octave.the-variants as o
+
+-- ---- parts replaced
+
+abbrev pub withAttributes : Attributes → Pae → Pae
+withAttributes a st = record { attributes = a; voice = st .voice; counts = st .counts; groups = st .groups; figure = st .figure; diagnostics = st .diagnostics }
+
+abbrev pub withVoice : Voice → Pae → Pae
+withVoice v st = record { attributes = st .attributes; voice = v; counts = st .counts; groups = st .groups; figure = st .figure; diagnostics = st .diagnostics }
+
+abbrev pub withCounts : Counts → Pae → Pae
+withCounts c st = record { attributes = st .attributes; voice = st .voice; counts = c; groups = st .groups; figure = st .figure; diagnostics = st .diagnostics }
+
+abbrev pub withGroups : Groups → Pae → Pae
+withGroups g st = record { attributes = st .attributes; voice = st .voice; counts = st .counts; groups = g; figure = st .figure; diagnostics = st .diagnostics }
+
+-- ---- the open bar
+
+-- it has a record
+abbrev pub hasContent : Counts → Bool
+hasContent c = ltb (c .first) (c .notes)
+
+-- its length
+abbrev pub openLength : Counts → ℕ
+openLength c = c .notes - c .first
+
+-- ---- attributes
+
+-- a clef that the value names
+abbrev pub clefSet : List ℕ → Attributes → Attributes
+clefSet value a = given (clefOf value .clef) a (λ c. record { clef = c; keyed = a .keyed; fifths = a .fifths; numerator = a .numerator; denominator = a .denominator; symbol = a .symbol; left = a .left; alters = a .alters })
+
+abbrev pub keySet : List ℕ → Attributes → Attributes
+keySet value a = record { clef = a .clef; keyed = true; fifths = keyOf value .fifths; numerator = a .numerator; denominator = a .denominator; symbol = a .symbol; left = a .left; alters = keyOf value .alters }
+
+-- a meter that the value names
+abbrev pub meterSet : List ℕ → Attributes → Attributes
+meterSet value a = given (meterOf value) a (λ m. record { clef = a .clef; keyed = a .keyed; fifths = a .fifths; numerator = m .numerator; denominator = m .denominator; symbol = m .symbol; left = a .left; alters = a .alters })
+
+abbrev pub leftSet : ℕ → Attributes → Attributes
+leftSet left a = record { clef = a .clef; keyed = a .keyed; fifths = a .fifths; numerator = a .numerator; denominator = a .denominator; symbol = a .symbol; left = left; alters = a .alters }
+
+-- a new bar has none, but the barline's left
+abbrev pub newBar : ℕ → Attributes → Attributes
+newBar left a = record { clef = 0; keyed = false; fifths = pos 0; numerator = 0; denominator = 0; symbol = 0; left = left; alters = a .alters }
+
+-- what a barline makes of them: a left of 2 is noted on an empty bar
+abbrev pub barAttributes : Bool → ℕ → Attributes → Attributes
+barAttributes content left a = cond content (newBar left a) (cond (eqb left 2) (leftSet 2 a) a)
+
+-- ---- voice
+
+-- 3 means that no accidental waits
+abbrev pub noAccidental : ℤ
+noAccidental = pos 3
+
+abbrev pub octaveSet : Octave → Voice → Voice
+octaveSet (o.Set octave) v = record { octave = octave; accidental = v .accidental; chord = v .chord; grace = v .grace; group = v .group; tie = v .tie }
+octaveSet o.OutOfRange v = v
+
+abbrev pub accidentalSet : ℤ → Voice → Voice
+accidentalSet alter v = record { octave = v .octave; accidental = alter; chord = v .chord; grace = v .grace; group = v .group; tie = v .tie }
+
+abbrev pub chordSet : Voice → Voice
+chordSet v = record { octave = v .octave; accidental = v .accidental; chord = true; grace = v .grace; group = v .group; tie = v .tie }
+
+-- 1 `q`, 2 `g`
+abbrev pub graceSet : Bool → Voice → Voice
+graceSet slashed v = record { octave = v .octave; accidental = v .accidental; chord = v .chord; grace = cond slashed 2 1; group = v .group; tie = v .tie }
+
+abbrev pub graceGroupSet : Bool → Voice → Voice
+graceGroupSet begins v = record { octave = v .octave; accidental = v .accidental; chord = v .chord; grace = v .grace; group = begins; tie = v .tie }
+
+abbrev pub tieSet : Bool → Voice → Voice
+tieSet waits v = record { octave = v .octave; accidental = v .accidental; chord = v .chord; grace = v .grace; group = v .group; tie = waits }
+
+-- any letter uses up `^` and the accidental
+abbrev pub letterJoined : Voice → Voice
+letterJoined v = record { octave = v .octave; accidental = noAccidental; chord = false; grace = v .grace; group = v .group; tie = v .tie }
+
+-- an opening letter also takes `g` or `q` and ends a tie
+abbrev pub letterOpened : Voice → Voice
+letterOpened v = record { octave = v .octave; accidental = noAccidental; chord = false; grace = 0; group = v .group; tie = false }
+
+-- ---- counts
+
+-- n records more
+abbrev pub counted : ℕ → Counts → Counts
+counted n c = record { notes = c .notes + n; first = c .first; last = c .last; bars = c .bars }
+
+-- an empty bar isn't stored
+abbrev pub barCounted : Counts → Counts
+barCounted c = cond (hasContent c) (record { notes = c .notes; first = c .notes; last = c .first; bars = c .bars + 1 }) c
+
+-- how many records `i` copies: in an empty bar after a stored one, that bar's
+abbrev pub repeatedCount : Counts → ℕ
+repeatedCount c = cond (hasContent c) 0 (cond (eqb (c .bars) 0) 0 (c .first - c .last))
+
+-- ---- groups
+
+abbrev pub noStart : Start
+noStart = record { noted = false; length = 0 }
+
+abbrev pub startAt : ℕ → Start
+startAt n = record { noted = true; length = n }
+
+-- 256 means that the open group has no count
+abbrev pub noCount : ℕ
+noCount = 256
+
+-- the first `!` notes the open bar's length, the second closes
+abbrev pub figureMarked : ℕ → Groups → Groups
+figureMarked n g = record { figure = cond (g .figure .noted) noStart (startAt n); beam = g .beam; paren = g .paren; count = g .count }
+
+abbrev pub beamSet : Start → Groups → Groups
+beamSet start g = record { figure = g .figure; beam = start; paren = g .paren; count = g .count }
+
+abbrev pub parenSet : Start → Groups → Groups
+parenSet start g = record { figure = g .figure; beam = g .beam; paren = start; count = noCount }
+
+-- `;` sets the open group's count
+abbrev pub countSet : List ℕ → Groups → Groups
+countSet value g = cond (g .paren .noted) (given (countOf value) g (λ n. record { figure = g .figure; beam = g .beam; paren = g .paren; count = n })) g
+
+-- ---- the figure
+
+-- the second `!` in a bar not shorter closes a figure of so many records
+abbrev pub figureClosed : Groups → ℕ → ℕ → ℕ
+figureClosed g n old = cond (g .figure .noted) (cond (leb (g .figure .length) n) (n - g .figure .length) old) old

@@ -1,0 +1,348 @@
+// What a token makes of the reading state.
+ghost use mathlib.Core.Path.{_≡_};
+ghost use mathlib.Core.Bool.{true, false, cond, _||_};
+ghost use Prim.Native.Nat.{_+_, _≤_, _<_};
+ghost use Rattle.steps.specs.State.{withAttributes, withVoice, withCounts, withGroups, hasContent, openLength, clefSet, keySet, meterSet, newBar, barAttributes, octaveSet, accidentalSet, chordSet, graceSet, graceGroupSet, tieSet, letterJoined, letterOpened, counted, barCounted, repeatedCount, noStart, startAt, figureMarked, beamSet, parenSet, countSet, figureClosed};
+use text::Count;
+use values::attributes::Meter;
+use values::attributes::NamedClef;
+use values::attributes::clef_number;
+use values::attributes::clef_of;
+use values::attributes::key_of;
+use values::attributes::meter_of;
+use values::pae::Attributes;
+use values::pae::Counts;
+use values::pae::Groups;
+use values::pae::Pae;
+use values::pae::Start;
+use values::pae::Voice;
+use values::rhythm::Octave;
+
+// The open bar has a record.
+pub fn has_content(counts: Counts) -> bool
+    ensures { λ r. ⌜ r ≡ hasContent counts ⌝ }
+{
+    counts.first < counts.notes
+}
+
+// The open bar's length.
+pub fn open_length(counts: Counts) -> usize
+    requires { ⌜ counts .first ≤ counts .notes ⌝ }
+    ensures { λ r. ⌜ r ≡ openLength counts ⌝ }
+{
+    counts.notes - counts.first
+}
+
+// ---- clef, key, meter
+
+pub fn set_clef(attributes: Attributes, value: &[u8]) -> Attributes
+    ensures { λ r. ⌜ r ≡ clefSet (now (value .entry)) attributes ⌝ }
+{
+    let read = clef_of(value);
+    let named = read.clef;
+    let mut next = attributes;
+    match named {
+        NamedClef::Known(clef) => {
+            next.clef = clef_number(clef);
+            next
+        }
+        NamedClef::Unknown => next,
+    }
+}
+
+pub fn set_key(attributes: Attributes, value: &[u8]) -> Attributes
+    ensures { λ r. ⌜ r ≡ keySet (now (value .entry)) attributes ⌝ }
+{
+    let key = key_of(value);
+    let alters = key.alters;
+    let mut next = attributes;
+    next.keyed = true;
+    next.fifths = key.fifths;
+    next.alters = alters;
+    next
+}
+
+pub fn set_time(attributes: Attributes, value: &[u8]) -> Attributes
+    ensures { λ r. ⌜ r ≡ meterSet (now (value .entry)) attributes ⌝ }
+{
+    let meter = meter_of(value);
+    let mut next = attributes;
+    match meter {
+        Meter::Set {
+            numerator,
+            denominator,
+            symbol,
+        } => {
+            next.numerator = numerator;
+            next.denominator = denominator;
+            next.symbol = symbol;
+            next
+        }
+        Meter::Refused => next,
+    }
+}
+
+// ---- octave, accidental, chord, grace
+
+pub fn octave(mut voice: Voice, octave: Octave) -> Voice
+    ensures { λ r. ⌜ r ≡ octaveSet octave voice ⌝ }
+{
+    match octave {
+        Octave::Set(o) => {
+            voice.octave = o;
+            voice
+        }
+        Octave::OutOfRange => voice,
+    }
+}
+
+pub fn accidental(mut voice: Voice, alter: i8) -> Voice
+    ensures { λ r. ⌜ r ≡ accidentalSet alter voice ⌝ }
+{
+    voice.accidental = alter;
+    voice
+}
+
+pub fn chord(mut voice: Voice) -> Voice
+    ensures { λ r. ⌜ r ≡ chordSet voice ⌝ }
+{
+    voice.chord = true;
+    voice
+}
+
+pub fn grace(mut voice: Voice, slashed: bool) -> Voice
+    ensures { λ r. ⌜ r ≡ graceSet slashed voice ⌝ }
+{
+    if slashed {
+        voice.grace = 2;
+        return voice;
+    }
+    voice.grace = 1;
+    voice
+}
+
+pub fn grace_group(mut voice: Voice, begins: bool) -> Voice
+    ensures { λ r. ⌜ r ≡ graceGroupSet begins voice ⌝ }
+{
+    voice.group = begins;
+    voice
+}
+
+// A tie waits for its end, or no longer does.
+pub fn tie(mut voice: Voice, waits: bool) -> Voice
+    ensures { λ r. ⌜ r ≡ tieSet waits voice ⌝ }
+{
+    voice.tie = waits;
+    voice
+}
+
+// A letter that joins a chord uses up `^` and the accidental.
+pub fn letter_joined(mut voice: Voice) -> Voice
+    ensures { λ r. ⌜ r ≡ letterJoined voice ⌝ }
+{
+    voice.accidental = Pae::NO_ACCIDENTAL;
+    voice.chord = false;
+    voice
+}
+
+// One that opens a record takes `g` or `q` too, and ends a tie.
+pub fn letter_opened(mut voice: Voice) -> Voice
+    ensures { λ r. ⌜ r ≡ letterOpened voice ⌝ }
+{
+    voice.accidental = Pae::NO_ACCIDENTAL;
+    voice.chord = false;
+    voice.grace = 0;
+    voice.tie = false;
+    voice
+}
+
+// ---- bars
+
+// A new bar has no attribute but the barline's left.
+fn new_bar(mut attributes: Attributes, left: u8) -> Attributes
+    ensures { λ r. ⌜ r ≡ newBar left attributes ⌝ }
+{
+    attributes.clef = 0;
+    attributes.keyed = false;
+    attributes.fifths = 0;
+    attributes.numerator = 0;
+    attributes.denominator = 0;
+    attributes.symbol = 0;
+    attributes.left = left;
+    attributes
+}
+
+// What a barline makes of the attributes: a left of 2 is noted on an empty bar.
+pub fn bar_attributes(mut attributes: Attributes, content: bool, left: u8) -> Attributes
+    ensures { λ r. ⌜ r ≡ barAttributes content left attributes ⌝ }
+{
+    if content {
+        return new_bar(attributes, left);
+    }
+    if left == 2 {
+        attributes.left = 2;
+        return attributes;
+    }
+    attributes
+}
+
+// An empty bar isn't stored.
+pub fn bar_counted(mut counts: Counts) -> Counts
+    requires { ⌜ counts .bars < 4294967296 ⌝ }
+    ensures { λ r. ⌜ r ≡ barCounted counts ⌝ }
+{
+    if counts.first < counts.notes {
+        counts.last = counts.first;
+        counts.first = counts.notes;
+        counts.bars += 1;
+        return counts;
+    }
+    counts
+}
+
+// n records more.
+pub fn counted(mut counts: Counts, n: usize) -> Counts
+    requires { ⌜ (counts .notes < 4294967296) × (n < 4294967296) ⌝ }
+    ensures { λ r. ⌜ r ≡ counted n counts ⌝ }
+{
+    counts.notes += n;
+    counts
+}
+
+// How many records `i` copies.
+pub fn repeated_count(counts: Counts) -> usize
+    requires { ⌜ counts .last ≤ counts .first ⌝ }
+    ensures { λ r. ⌜ r ≡ repeatedCount counts ⌝ }
+{
+    if counts.first < counts.notes {
+        return 0;
+    }
+    if counts.bars == 0 {
+        return 0;
+    }
+    counts.first - counts.last
+}
+
+// ---- groups
+
+fn start_at(length: usize) -> Start
+    ensures { λ r. ⌜ r ≡ startAt length ⌝ }
+{
+    Start {
+        noted: true,
+        length,
+    }
+}
+
+fn no_start() -> Start
+    ensures { λ r. ⌜ r ≡ noStart ⌝ }
+{
+    Start {
+        noted: false,
+        length: 0,
+    }
+}
+
+// The first `!` notes the open bar's length, the second closes.
+pub fn figure_marked(mut groups: Groups, length: usize) -> Groups
+    ensures { λ r. ⌜ r ≡ figureMarked length groups ⌝ }
+{
+    if groups.figure.noted {
+        groups.figure = no_start();
+        return groups;
+    }
+    groups.figure = start_at(length);
+    groups
+}
+
+pub fn beam_opened(mut groups: Groups, length: usize) -> Groups
+    ensures { λ r. ⌜ r ≡ beamSet (startAt length) groups ⌝ }
+{
+    groups.beam = start_at(length);
+    groups
+}
+
+pub fn beam_closed(mut groups: Groups) -> Groups
+    ensures { λ r. ⌜ r ≡ beamSet noStart groups ⌝ }
+{
+    groups.beam = no_start();
+    groups
+}
+
+pub fn paren_opened(mut groups: Groups, length: usize) -> Groups
+    ensures { λ r. ⌜ r ≡ parenSet (startAt length) groups ⌝ }
+{
+    groups.paren = start_at(length);
+    groups.count = Pae::NO_COUNT;
+    groups
+}
+
+pub fn paren_closed(mut groups: Groups) -> Groups
+    ensures { λ r. ⌜ r ≡ parenSet noStart groups ⌝ }
+{
+    groups.paren = no_start();
+    groups.count = Pae::NO_COUNT;
+    groups
+}
+
+// `;` sets the open group's count.
+pub fn paren_counted(mut groups: Groups, value: &[u8]) -> Groups
+    ensures { λ r. ⌜ r ≡ countSet (now (value .entry)) groups ⌝ }
+{
+    if groups.paren.noted {
+        let count = text::count(value);
+        match count {
+            Count::Number(n) => {
+                groups.count = n as u16;
+                return groups;
+            }
+            Count::Refused => {
+                return groups;
+            }
+        }
+    }
+    groups
+}
+
+// The second `!`, in a bar not shorter, closes a figure of so many records.
+pub fn figure_closed(groups: Groups, length: usize, old: usize) -> usize
+    ensures { λ r. ⌜ r ≡ figureClosed groups length old ⌝ }
+{
+    if groups.figure.noted {
+        if groups.figure.length <= length {
+            return length - groups.figure.length;
+        }
+        return old;
+    }
+    old
+}
+
+// ---- parts replaced
+
+pub fn with_attributes(mut st: Pae, attributes: Attributes) -> Pae
+    ensures { λ r. ⌜ r ≡ withAttributes attributes st ⌝ }
+{
+    st.attributes = attributes;
+    st
+}
+
+pub fn with_voice(mut st: Pae, voice: Voice) -> Pae
+    ensures { λ r. ⌜ r ≡ withVoice voice st ⌝ }
+{
+    st.voice = voice;
+    st
+}
+
+pub fn with_counts(mut st: Pae, counts: Counts) -> Pae
+    ensures { λ r. ⌜ r ≡ withCounts counts st ⌝ }
+{
+    st.counts = counts;
+    st
+}
+
+pub fn with_groups(mut st: Pae, groups: Groups) -> Pae
+    ensures { λ r. ⌜ r ≡ withGroups groups st ⌝ }
+{
+    st.groups = groups;
+    st
+}

@@ -1,0 +1,4 @@
+pub mod Classes
+pub mod Counts
+pub mod Parts
+pub mod Keys

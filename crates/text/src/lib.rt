@@ -1,0 +1,351 @@
+// The bytes of a text: classes and runs, numbers, tokens, parts, lines and fields.
+mod number;
+
+pub use number::Count;
+ghost use mathlib.Core.Path.{_≡_};
+ghost use Prim.Native.Nat.{_+_, _<_, _≤_};
+ghost use mathlib.Core.Bool.{not};
+ghost use mathlib.Core.List.{[], _∷_};
+ghost use lib.ListN.{length, take, drop};
+ghost use lib.Dec.{leb};
+ghost use Rattle.rules.specs.Text.{bytes, among, isBlank, isDigit, isNoteLetter, isAlphabetic, runLength, every, has, begins, isText, trimEnd};
+ghost use Rattle.rules.specs.Cut.{isClefByte, longestOf, tokenSize};
+ghost use Rattle.rules.specs.Values.{countOf};
+ghost use Rattle.rules.specs.Fields.{lineSize, keySize, isField};
+ghost use Rattle.text.specs.Classes.{inClass};
+ghost use Rattle.text.specs.Counts.{numberIn};
+ghost use Rattle.text.specs.Parts.{Trimmed};
+ghost use Rattle.text.specs.Keys.{fieldKeyOf};
+
+// The largest number that digits may make.
+const COUNT_LIMIT: u16 = 255;
+
+// Classes of bytes.
+pub enum Class {
+    Same(u8),
+    Except(u8),
+    Blanks,
+    NonBlanks,
+    Digits,
+    Durations,
+    KeyBytes,
+    MeterBytes,
+    Alphabetic,
+    Ascii,
+}
+
+// A part of a text, by its offsets.
+pub struct Span {
+    pub start: usize,
+    pub end: usize,
+}
+
+// The keys of fields.
+pub enum FieldKey {
+    Clef,
+    Keysig,
+    Timesig,
+    Data,
+    Other,
+}
+
+// ---- classes of bytes
+
+pub fn is_blank(b: u8) -> bool
+    ensures { λ r. ⌜ r ≡ isBlank b ⌝ }
+{
+    ((9 <= b) & (b <= 13)) | (b == 32)
+}
+
+pub fn is_digit(b: u8) -> bool
+    ensures { λ r. ⌜ r ≡ isDigit b ⌝ }
+{
+    (b'0' <= b) & (b <= b'9')
+}
+
+pub fn is_note_letter(b: u8) -> bool
+    ensures { λ r. ⌜ r ≡ isNoteLetter b ⌝ }
+{
+    (b'A' <= b) & (b <= b'G')
+}
+
+fn is_alphabetic(b: u8) -> bool
+    ensures { λ r. ⌜ r ≡ isAlphabetic b ⌝ }
+{
+    ((b'A' <= b) & (b <= b'Z')) | ((b'a' <= b) & (b <= b'z'))
+}
+
+// Whether the byte is of the class.
+fn in_class(class: Class, b: u8) -> bool
+    ensures { λ r. ⌜ r ≡ inClass class b ⌝ }
+{
+    match class {
+        Class::Same(k) => b == k,
+        Class::Except(k) => !(b == k),
+        Class::Blanks => is_blank(b),
+        Class::NonBlanks => !is_blank(b),
+        Class::Digits => is_digit(b),
+        Class::Durations => is_digit(b) | (b == b'.'),
+        Class::KeyBytes => {
+            is_note_letter(b)
+                | ((b == b'x') | (b == b'b') | (b == b'n') | (b == b'[') | (b == b']'))
+        }
+        Class::MeterBytes => is_digit(b) | ((b == b'/') | (b == b'c') | (b == b'.') | (b == b'+')),
+        Class::Alphabetic => is_alphabetic(b),
+        Class::Ascii => !(128 <= b),
+    }
+}
+
+// How many bytes of `rest`, from its start, are of the class.
+pub fn run(rest: &[u8], class: Class) -> usize
+    ensures { λ r. ⌜ r ≡ runLength (inClass class) (now (rest .entry)) ⌝ }
+{
+    let mut i = 0;
+    while i < rest.len() {
+        if !in_class(class, rest[i]) {
+            return i;
+        }
+        i += 1;
+    }
+    i
+}
+
+// The end of the run of bytes of the class from `at` on.
+pub fn run_end(text: &[u8], at: usize, class: Class) -> usize
+    requires { ⌜ at ≤ length (now text) ⌝ }
+    ensures { λ r. ⌜ r ≡ at + runLength (inClass class) (drop at (now (text .entry))) ⌝ }
+{
+    at + run(&text[at..], class)
+}
+
+// Whether the text is blank throughout.
+pub fn is_blank_text(text: &[u8]) -> bool
+    ensures { λ r. ⌜ r ≡ every isBlank (now (text .entry)) ⌝ }
+{
+    run(text, Class::Blanks) == text.len()
+}
+
+// Whether every byte is below 128.
+pub fn is_ascii(text: &[u8]) -> bool
+    ensures { λ r. ⌜ r ≡ not (has (leb 128) (now (text .entry))) ⌝ }
+{
+    run(text, Class::Ascii) == text.len()
+}
+
+// ---- texts
+
+// Whether `rest` begins with `with`.
+pub fn begins_with(rest: &[u8], with: &[u8]) -> bool
+    ensures { λ r. ⌜ r ≡ begins (now (with .entry)) (now (rest .entry)) ⌝ }
+{
+    let mut i = 0;
+    while i < with.len() {
+        if rest.len() <= i {
+            return false;
+        }
+        if rest[i] != with[i] {
+            return false;
+        }
+        i += 1;
+    }
+    true
+}
+
+// Whether `value` is exactly `text`.
+pub fn is_text(value: &[u8], text: &[u8]) -> bool
+    ensures { λ r. ⌜ r ≡ isText (now (text .entry)) (now (value .entry)) ⌝ }
+{
+    (value.len() == text.len()) & begins_with(value, text)
+}
+
+// ---- numbers
+
+fn wide(b: u8) -> u16
+    ensures { λ r. ⌜ r ≡ b ⌝ }
+{
+    b as u16
+}
+
+// The number that one or more digits make, 0 to 255.
+pub fn count(digits: &[u8]) -> Count
+    ensures { λ r. ⌜ numberIn r ≡ countOf (now (digits .entry)) ⌝ }
+{
+    if digits.len() == 0 {
+        return Count::Refused;
+    }
+    let mut n: u16 = 0;
+    let mut i = 0;
+    while i < digits.len() {
+        let b = digits[i];
+        if !is_digit(b) {
+            return Count::Refused;
+        }
+        n = n * 10 + wide(b - b'0');
+        if COUNT_LIMIT < n {
+            return Count::Refused;
+        }
+        i += 1;
+    }
+    Count::Number(n as u8)
+}
+
+// ---- tokens
+
+// The first byte of `rest` with up to 3 non-blanks after it.
+fn clef_size(rest: &[u8]) -> usize
+    requires { ⌜ 0 < length (now rest) ⌝ }
+    ensures { λ r. ⌜ r ≡ 1 + runLength isClefByte (take 3 (drop 1 (now (rest .entry)))) ⌝ }
+{
+    if 4 < rest.len() {
+        return run_end(&rest[..4], 1, Class::NonBlanks);
+    }
+    run_end(rest, 1, Class::NonBlanks)
+}
+
+// The length of the first of two texts that `rest` begins with, else 1.
+fn longest(rest: &[u8], long: &[u8], short: &[u8]) -> usize
+    ensures { λ r. ⌜ r ≡ longestOf (now (long .entry) ∷ now (short .entry) ∷ []) (now (rest .entry)) ⌝ }
+{
+    if begins_with(rest, long) {
+        return long.len();
+    }
+    if begins_with(rest, short) {
+        return short.len();
+    }
+    1
+}
+
+// The length of `qq` or `q`.
+fn grace_size(rest: &[u8]) -> usize
+    ensures { λ r. ⌜ r ≡ longestOf (bytes "qq" ∷ []) (now (rest .entry)) ⌝ }
+{
+    if begins_with(rest, b"qq") { 2 } else { 1 }
+}
+
+// Whether a token is a run of this byte.
+fn is_repeated(b: u8) -> bool
+    ensures { λ r. ⌜ r ≡ among (bytes "',xb") b ⌝ }
+{
+    (b == b'\'') | (b == b',') | (b == b'x') | (b == b'b')
+}
+
+// Whether digits follow this byte.
+fn is_counted(b: u8) -> bool
+    ensures { λ r. ⌜ r ≡ among (bytes ";=") b ⌝ }
+{
+    (b == b';') | (b == b'=')
+}
+
+// The length of the first token of `rest`.
+fn token_size(rest: &[u8]) -> usize
+    requires { ⌜ 0 < length (now rest) ⌝ }
+    ensures { λ r. ⌜ r ≡ tokenSize (now (rest .entry)) ⌝ }
+{
+    let b = rest[0];
+    if is_repeated(b) {
+        return run_end(rest, 1, Class::Same(b));
+    }
+    if is_digit(b) {
+        return run_end(rest, 1, Class::Durations);
+    }
+    if is_counted(b) {
+        return run_end(rest, 1, Class::Digits);
+    }
+    match b {
+        b'%' => clef_size(rest),
+        b'$' => run_end(rest, 1, Class::KeyBytes),
+        b'@' => run_end(rest, 1, Class::MeterBytes),
+        b':' => longest(rest, b"://:", b"://"),
+        b'/' => longest(rest, b"//:", b"//"),
+        b'q' => grace_size(rest),
+        _ => 1,
+    }
+}
+
+// The end of the token that begins at `at`.
+pub fn token_end(text: &[u8], at: usize) -> usize
+    requires { ⌜ at < length (now text) ⌝ }
+    ensures { λ r. ⌜ r ≡ at + tokenSize (drop at (now (text .entry))) ⌝ }
+{
+    at + token_size(&text[at..])
+}
+
+// ---- parts
+
+// The size of the part without the blanks at its end.
+fn trimmed_size(part: &[u8]) -> usize
+    ensures { λ r. ⌜ r ≡ length (trimEnd (now (part .entry))) ⌝ }
+{
+    let mut n = part.len();
+    while 0 < n {
+        if !is_blank(part[n - 1]) {
+            return n;
+        }
+        n -= 1;
+    }
+    n
+}
+
+// The part of the text between two offsets without the blanks at its start and at its end.
+pub fn trim(text: &[u8], start: usize, end: usize) -> Span
+    requires { ⌜ (start ≤ end) × (end ≤ length (now text)) ⌝ }
+    ensures { λ r. ⌜ Trimmed (now (text .entry)) start end r ⌝ }
+{
+    let first = start + run(&text[start..end], Class::Blanks);
+    let size = trimmed_size(&text[first..end]);
+    Span {
+        start: first,
+        end: first + size,
+    }
+}
+
+// ---- lines and fields
+
+// The end of the line that begins at `at`: its byte 10, or the end of the text.
+pub fn line_end(text: &[u8], at: usize) -> usize
+    requires { ⌜ at ≤ length (now text) ⌝ }
+    ensures { λ r. ⌜ r ≡ at + lineSize (drop at (now (text .entry))) ⌝ }
+{
+    run_end(text, at, Class::Except(10))
+}
+
+// The end of a field's key in its line: behind the first byte and the ASCII letters after it.
+pub fn key_end(line: &[u8]) -> usize
+    requires { ⌜ 0 < length (now line) ⌝ }
+    ensures { λ r. ⌜ r ≡ 1 + keySize (now (line .entry)) ⌝ }
+{
+    run_end(line, 1, Class::Alphabetic)
+}
+
+// Whether a line, trimmed, is a field.
+pub fn is_field(line: &[u8]) -> bool
+    ensures { λ r. ⌜ r ≡ isField (now (line .entry)) ⌝ }
+{
+    if !begins_with(line, b"@") {
+        return false;
+    }
+    let at = key_end(line);
+    if line.len() <= at {
+        return false;
+    }
+    (1 < at) & (line[at] == b':')
+}
+
+// Which field has this key.
+pub fn field_key(key: &[u8]) -> FieldKey
+    ensures { λ r. ⌜ r ≡ fieldKeyOf (now (key .entry)) ⌝ }
+{
+    if is_text(key, b"clef") {
+        return FieldKey::Clef;
+    }
+    if is_text(key, b"keysig") {
+        return FieldKey::Keysig;
+    }
+    if is_text(key, b"timesig") {
+        return FieldKey::Timesig;
+    }
+    if is_text(key, b"data") {
+        return FieldKey::Data;
+    }
+    FieldKey::Other
+}

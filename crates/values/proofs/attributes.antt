@@ -1,0 +1,3 @@
+pub mod ClefLaws
+pub mod KeyLaws
+pub mod MeterLaws

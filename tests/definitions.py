@@ -1,0 +1,680 @@
+#!/usr/bin/env python3
+"""Computes the definition `reading` of crates/rules on many texts and compares it with the original Rust's answers.
+
+    tests/definitions.py [--count N] [--seed S] [--batch B] [--oracle PATH]
+
+The oracle is the original Rust: `../shared/oracle/build DIR` builds it and prints its path, which is handed over
+by --oracle or in the environment variable ORACLE.
+
+The whole answer is written as one line: number, place, counts, every word of the stored records, how many cells each
+buffer has and that the others are all 0. The prover computes that line from the definition: each text has a theorem
+`answer text .. ≡ "line"`, proved by `refl`. The theorems stand in target/definitions/, a repository of its own.
+
+The expected line comes from the oracle. The words and refusals that document 01 adds to the Rust are found from the
+oracle's answers on the text cut behind each token; those for limits 1 and 7 are written out. Of the diagnostic cells
+all are looked at for one text in eight, else the stored ones and 20 more. All short texts are among them from a count
+of 4,764 on. A text that differs is cut down to a small one that still differs.
+"""
+import argparse
+import os
+import random
+import re
+import shutil
+import subprocess
+import sys
+from collections import Counter
+from pathlib import Path
+
+ROOT = Path(__file__).resolve().parent.parent
+WORK = ROOT / "target" / "definitions"
+
+# ---- the texts
+
+LETTERS = "ABCDEFG"
+CLEFS = ["G-2", "g-2", "F-4", "C-1", "C-2", "C-3", "C-4", "C-5"]
+MENSURAL = ["G+2", "g+2", "F+4", "C+1", "C+3", "C+5", "G+3", "x+y", "+++", "1+/"]
+BAD_CLEFS = ["", "G", "G-", "G-3", "c-3", "C-6", "C-0", "F-3", "G2-", "---", "%G-", "G-22", "+", "C+", "/:/"]
+SHARPS, FLATS = ["FCGDAEB"[:n] for n in range(8)], ["BEADGCF"[:n] for n in range(8)]
+ODD_KEYS = ["x", "b", "F", "xFG", "xCF", "bEB", "bBx", "xFbB", "bBxF", "xFxC", "bBbE", "xbF", "bxF", "[xF]", "x[F]C", "xFn", "nF", "xFF", "xFCGDAEBF",
+            "bBEADGCFB", "FxF", "xFCb", "bBEx", "[", "n", "xFCGF", "bBEAB", "xAbA", "xFCGDAEBFCGDAEB"]
+METERS = ["c", "c/", "3/4", "4/4", "6/8", "2/2", "12/16", "1/1", "255/128", "+3/4", "3/+8", "+2/+2", "03/004"]
+BAD_METERS = ["", "3", "/", "/4", "3/", "0/4", "4/0", "3/3", "256/4", "4/256", "3/255", "c.", "cc", "c//", "c/2", "3/4/2", "3//4", "++3/4", "3/4.", ".", "+/4", "3/+", "+",
+              "3.5/4", "1000/4", "4/1024", "4/512"]
+COUNTS = ["", "0", "1", "2", "3", "4", "5", "6", "7", "8", "9", "12", "15", "16", "17", "32", "33", "64", "65", "127", "128", "129", "130", "255", "256", "300", "1000", "003", "0000255"]
+UNKNOWN = list("?zHaduewshjklmopvycX.[]|~_*&#<>\"\\`RTIVZ\x00\x01\x08\x0e\x1b\x1c\x1f\x7f")
+BLANKS = [" "] * 6 + ["  ", "\t", "\n", "\r", "\r\n", "\v", "\f"]
+
+INCIPITS = [
+    "%G-2$xFC@3/4 '4C8DE/4F+F^A/{8CDEF}(CDE)/",
+    "%C-1$bBEA@c ,4G'C/8.6DEFG/4-G/2C-//",
+    "%F-4@c/ 2,,C,G/4.E8F4GA/1C://:2D/",
+    "$xFCG@6/8 8''E'A''C/4.E{8DC'B}/",
+    "@2/4 {6CDEF}{8G''C}/!8{CDEC}!f/i/",
+    "''4C+8C{6DE}/(8CDE)(4F)tG/",
+    "%g-2$bB@3/8 8F/A^''C'F/qqDErC/gB4A/",
+    "'4C//:D/E://F//",
+    "%C-3@4/4 4(CDE;3){8FG}(6FGABC;5)/",
+    "4.'C8q6D8E/n4FxFbF/xxGbbG/G",
+    "8.6{CD}{EF}/t4G(-)/2.C/",
+    "$bBEAD 4C^E^G^''C/'x4FF,F/F",
+    "%G-2@c '2C(D)/=3/4C",
+    "!4CDE!ff/!8{CD}{EF}!/f/i/",
+    "4C+/C+-C/+C/C^E+C^E",
+    "gC8qqDEr4F-/qGg^AB",
+]
+FORMS = [
+    "@clef:G-2\n@keysig:xFC\n@timesig:3/4\n@data:'4C8DE/4F+FA/",
+    "@data:4CDE\n@clef:C-3\n@keysig:bB\n@timesig:c/\n",
+    "@clef:F-4\r\n@key:x\r\n@data: ,4C/D \r\n",
+]
+
+
+def octave(r):
+    k = r.choice([1, 1, 1, 2, 2, 3, 4, 5, 6, 7, 8])
+    return r.choice("'',") * k
+
+
+def duration(r):
+    return "".join(r.choice("0912486357448866") + "." * r.choice([0, 0, 0, 0, 1, 1, 2, 3, 4, 6]) for _ in range(r.choice([1, 1, 1, 2, 2, 3, 4])))
+
+
+def key(r):
+    kind = r.random()
+    if kind < 0.45:
+        sharp = r.random() < 0.5
+        return "x" + r.choice(SHARPS) if sharp else "b" + r.choice(FLATS)
+    if kind < 0.8:
+        return r.choice(ODD_KEYS)
+    return "".join(r.choice("xxbbnABCDEFG[]") for _ in range(r.randrange(8)))
+
+
+def clef(r):
+    return r.choice(r.choice([CLEFS, CLEFS, MENSURAL, BAD_CLEFS]))
+
+
+def meter(r):
+    kind = r.random()
+    if kind < 0.85:
+        return r.choice(METERS if kind < 0.5 else BAD_METERS)
+    return "".join(r.choice("0123468/c.+/") for _ in range(r.randrange(1, 7)))
+
+
+def letter(r):
+    return r.choice(LETTERS)
+
+
+def letters(r, most):
+    return "".join(r.choice(LETTERS + "-gq") for _ in range(r.randint(0, most)))
+
+
+TOKENS = {
+    "letter": letter,
+    "few": lambda r: r.choice("CCCDF"),
+    "octave": octave,
+    "duration": duration,
+    "accidental": lambda r: r.choice(["x", "x", "b", "b", "n", "n", "xx", "bb", "xxx", "bbbb"]),
+    "rest": lambda r: "-",
+    "chord": lambda r: "^",
+    "joined": lambda r: "^" + r.choice(["", "", "x", "n", "'", ","]) + letter(r),
+    "late": lambda r: r.choice(["^", "x", "q", "+"]) + r.choice(["-", "/", "f", "-f", "/i", "qq", " "]) + letter(r),
+    "grace": lambda r: r.choice(["g", "q", "qq", "r", "qq", "r", "qqq"]),
+    "bar": lambda r: r.choice(["/", "/", "/", "//", "//:", "://", "://:", "/:", ":", "///", ":/", "//://:"]),
+    "figure": lambda r: r.choice("!!!fffi"),
+    "repeat": lambda r: "/i",
+    "copied": lambda r: "!" + letters(r, 4) + "!" + "f" * r.randrange(3),
+    "crossing": lambda r: letters(r, 3) + r.choice(["!%s!", "(%s)"]) % (letters(r, 2) + "/" + letters(r, 3)),
+    "beam": lambda r: r.choice("{{}}"),
+    "group": lambda r: r.choice(["(", "(", ")", ")", ";" + r.choice(COUNTS)]),
+    "tuplet": lambda r: "(" + letters(r, 5) + r.choice(["", ";" + r.choice(COUNTS), ";" + r.choice("0122345")]) + ")",
+    "marked": lambda r: "(" + r.choice(["C", "D", "-", "qED", "FgG"]) + "t" * r.choice([0, 1, 7, 8, 8]) + r.choice(["", "", "gA", "qB", "C"]) + ")" + "t" * r.choice([0, 0, 1, 7]),
+    "chords": lambda r: letter(r) + "".join("^" + letter(r) for _ in range(r.choice([2, 5, 6, 7, 8]))),
+    "tie": lambda r: "+",
+    "trill": lambda r: "t",
+    "clef": lambda r: "%" + clef(r),
+    "key": lambda r: "$" + key(r),
+    "meter": lambda r: "@" + meter(r),
+    "unknown": lambda r: r.choice(UNKNOWN),
+    "blank": lambda r: r.choice(BLANKS),
+    "measure rest": lambda r: r.choice(["=", "=3", "=0"]),
+}
+# how often the kinds of tokens stand in a line; the first suits all, the others bring out one thing
+MOODS = [
+    dict(letter=10, octave=2, duration=3, accidental=3, rest=2, chord=2, grace=2, bar=3, figure=2, beam=2, group=3, tuplet=1, tie=2, trill=1, clef=1, key=1, meter=1, unknown=1, blank=2),
+    dict(few=8, octave=3, accidental=6, bar=2, key=2, joined=2, figure=1, grace=1),
+    dict(letter=6, duration=5, rest=3, grace=4, joined=2, bar=1, blank=1),
+    dict(letter=8, figure=6, copied=2, crossing=1, rest=1, bar=2, repeat=2, joined=2, late=2, tie=2, trill=1, beam=1, group=1),
+    dict(letter=6, group=5, tuplet=3, crossing=2, rest=1, grace=2, bar=1, trill=1, figure=1),
+    dict(letter=8, beam=6, rest=2, grace=2, bar=1, figure=1, group=1),
+    dict(letter=6, tie=5, trill=4, late=2, rest=3, joined=2, grace=2, bar=2, repeat=1),
+    dict(letter=3, clef=3, key=3, meter=3, bar=3, rest=1, blank=1, unknown=1),
+    dict(few=4, joined=6, chords=1, trill=2, bar=1, copied=1),
+    dict(letter=4, trill=6, marked=2, tuplet=1, group=1, copied=1),
+    dict(letter=5, bar=6, repeat=2, clef=1, rest=1),
+]
+
+
+def data_line(r):
+    mood = dict(r.choice(MOODS + MOODS[:1] * 6))
+    if r.random() < 0.02:
+        mood["measure rest"] = 1
+    kinds = list(mood)
+    size = r.choice([2, 4, 6, 8, 10, 12, 14, 16, 20, 25])
+    return "".join(TOKENS[k](r) for k in r.choices(kinds, [mood[k] for k in kinds], k=size))
+
+
+def mutated(r, text):
+    for _ in range(r.choice([1, 1, 2, 3, 4])):
+        at = r.randrange(len(text) + 1)
+        kind = r.random()
+        new = TOKENS[r.choice([k for k in TOKENS if k != "measure rest"])](r)
+        if kind < 0.35:
+            text = text[:at] + text[at + r.randrange(1, 3):]
+        elif kind < 0.7:
+            text = text[:at] + new + text[at:]
+        else:
+            text = text[:at] + new + text[at + r.randrange(1, 4):]
+    return text
+
+
+def field_line(r):
+    name = r.choice(["clef", "keysig", "keysig", "timesig", "other", "odd", "blank", "bare"])
+    space = lambda: r.choice(["", "", "", " ", "\t", "  "])
+    if name == "clef":
+        value = clef(r)
+    elif name == "keysig":
+        value = key(r)
+        if r.random() < 0.5:
+            value = "".join(c + r.choice(["", "", " "]) for c in value)
+    elif name == "timesig":
+        value = meter(r)
+    elif name == "other":
+        name, value = r.choice(["key", "title", "Data", "CLEF", "a", "datas", "dat", "clefs", "Z"]), r.choice(["", "x", "G-2", "a b", ":", "@data:C"])
+    elif name == "odd":
+        return space() + r.choice(["hello", "@:x", "@", "@clef", "clef:G-2", "@c1:x", "@da ta:C", "@ data:C", "@@data:C", "4CDE", ":", "@data", "@clef/:G-2", "x @data:C"]) + space()
+    elif name == "blank":
+        return r.choice(["", "", " ", "\t \v"])
+    else:
+        return data_line(r)
+    return space() + "@" + name + ":" + space() + value + space()
+
+
+def field_form(r):
+    lines = [field_line(r) for _ in range(r.choice([0, 1, 2, 3, 4, 5]))]
+    for _ in range(r.choice([0, 1, 1, 1, 1, 1, 1, 1, 2, 3])):
+        data = re.sub("\n", " ", data_line(r)) if r.random() < 0.9 else data_line(r)
+        lines.insert(r.randrange(len(lines) + 1), r.choice(["", "", "", " ", "\t"]) + "@data:" + r.choice(["", "", " ", "\v "]) + data)
+    end = r.choice(["\n", "\n", "\n", "\r\n"])
+    return end.join(lines) + r.choice(["", end, end + end])
+
+
+def random_text(r):
+    kind = r.random()
+    if kind < 0.55:
+        text = data_line(r)
+    elif kind < 0.77:
+        text = field_form(r)
+    elif kind < 0.95:
+        text = mutated(r, r.choice(INCIPITS))
+    elif kind < 0.99:
+        text = mutated(r, r.choice(FORMS))
+    else:
+        text = "".join(r.choice(BLANKS + ["\x80", "\xff", "C"]) for _ in range(r.randrange(4)))
+    return text.encode("latin-1")
+
+
+# every text of one or two of these bytes
+SHORT = "CG-^xbn',48.gqrt+!fi{}();%$@/: =\n?"
+
+
+def short_texts():
+    return [a.encode() for a in SHORT] + [(a + b).encode() for a in SHORT for b in SHORT] + [b""]
+
+
+# more diagnostics than are stored
+MANY = [b"C" + b"?" * 1030]
+
+# ---- document 01: the data and its tokens
+
+BLANK = bytes([9, 10, 11, 12, 13, 32])
+FIELD = re.compile(rb"@([A-Za-z]+):(.*)", re.S)
+TOKEN = re.compile(rb"'+|,+|x+|b+|[0-9][0-9.]*|[;=][0-9]*|%[^\t-\r ]{0,3}|\$[xbnA-G\[\]]*|@[0-9/c.+]*|://:|://|//:|//|qq|.", re.S)
+BARLINES = ("/", "//", "//:", "://", "://:")
+
+
+def data_of(text):
+    """where the data stands in the text; None: field form, no data field"""
+    at, form, data = 0, False, None
+    for line in text.split(b"\n"):
+        field = FIELD.fullmatch(line.strip(BLANK))
+        if field:
+            form = True
+            if field[1] == b"data":
+                value = field[2].strip(BLANK)
+                start = at + line.index(b"@data:") + 6
+                start += len(text[start:]) - len(text[start:].lstrip(BLANK)) if value else 0
+                data = (start, start + len(value))
+        at += len(line) + 1
+    return data if form else (0, len(text))
+
+
+def is_ascii(text):
+    return max(text, default=0) < 128
+
+
+def prefixes(text):
+    """the text, its data cut behind each token"""
+    data = data_of(text)
+    if data is None:
+        return []
+    start, end = data
+    return [text[:start + token.end()] + text[end:] for token in TOKEN.finditer(text[start:end])]
+
+
+# ---- what is expected
+
+NOTE, BAR, DIAGNOSTIC = 44, 10, 6  # words in a record
+CAPACITY = 8  # pitches or marks of a note
+STORED = 1024  # diagnostics
+UNIT = dict(notes=NOTE, bars=BAR, figure=NOTE)
+
+
+class Oracle:
+    """the original's answers, each text asked once"""
+
+    def __init__(self, path):
+        self.path, self.known = path, {}
+
+    def ask(self, texts):
+        new = [t for t in dict.fromkeys(texts) if t not in self.known and is_ascii(t)]
+        run = subprocess.run([self.path], input="".join(t.hex() + "\n" for t in new), capture_output=True, text=True, check=True)
+        lines = run.stdout.split("\n")[:-1]
+        assert len(lines) == len(new), "the oracle answered %d of %d texts" % (len(lines), len(new))
+        self.known.update(zip(new, lines))
+
+    def records(self, text, kind):
+        return [p[1:] for p in self.known[text].split(";")[1:] if p[0] == kind]
+
+
+class Expectation:
+    """what the oracle's answers on a text and its prefixes say: where it can be refused, and the places of what is stored"""
+
+    def __init__(self, text, oracle):
+        self.text, self.oracle = text, oracle
+        self.stops = []  # place, number, what must be lent (None: nothing helps), how many records of it
+        self.places = []  # of each record: the storing token's place, the letters' places
+        if not is_ascii(text):
+            self.stops = [(0, 3, None, 0)]
+        elif not text.strip(BLANK):
+            self.stops = [(0, 4, None, 0)]
+        elif data_of(text) is None:
+            self.stops = [(0, 5, None, 0)]
+        else:
+            self.follow()
+        self.needed = {what: max([n for _, _, w, n in self.stops if w == what], default=0) for what in UNIT}
+
+    def follow(self):
+        start, end = data_of(self.text)
+        first, last_bar, figure, mark = 0, [], [], None  # the open bar's first record, the last stored bar, the figure, the open `!`
+
+        def stop(number, what=None, size=0):
+            self.stops.append((place, number, what, size))
+
+        for token, cut in zip(TOKEN.finditer(self.text[start:end]), prefixes(self.text)):
+            place, name = token.start() + 1, token[0].decode()
+            notes = [n.split(",") for n in self.oracle.records(cut, "N")]
+            added, opened = len(notes) - len(self.places), len(self.places) - first
+            if name[0] == "=":
+                return stop(6)
+            if added:
+                stop(8, "notes", len(notes))
+            if name == "-" or name in LETTERS and added:
+                self.places.append((place, [place] if name in LETTERS else []))
+            elif name in LETTERS:
+                self.places[-1] = (self.places[-1][0], self.places[-1][1] + [place])
+            elif added:
+                self.places += [(place, pitches) for _, pitches in (figure if name == "f" else last_bar)]
+            assert len(notes) == len(self.places), (self.text, place)
+            if any(int(n[9]) > CAPACITY for n in notes):
+                return stop(9)
+            if any(int(n[7]) > CAPACITY for n in notes):
+                return stop(10)
+            if name == "!" and mark is None:
+                mark = opened
+            elif name == "!":
+                if mark <= opened:
+                    figure = self.places[first + mark:]
+                    stop(11, "figure", len(figure))
+                mark = None
+            if name in BARLINES and opened:
+                last_bar, first = self.places[first:], len(self.places)
+                stop(12, "bars", len(self.oracle.records(cut, "B")))
+        place = end - start + 1
+        if len(self.places) > first:
+            stop(12, "bars", len(self.oracle.records(self.text, "B")))
+        place = 0
+        if not self.places:
+            stop(13)
+
+    def refusal(self, lent):
+        if lent["diagnostics"] < STORED:
+            return 2, 0
+        return next(((number, place) for place, number, what, size in self.stops if what is None or size > lent[what] // UNIT[what]), (0, 0))
+
+    def stored(self):
+        """what is accepted: the counts and the stored records, as in the oracle's line but with the places and without d2's key"""
+        notes, bars, found = (self.oracle.records(self.text, kind) for kind in "NBD")
+        found = [re.sub("^2,2,([0-9]+),1,[A-Za-z]+,", r"2,2,\1,1,,", d) for d in found[:STORED]]
+        line = "0,0,%d,%d,%d" % (len(notes), len(bars), len(found))
+        for words, (place, pitches) in zip(notes, self.places):
+            words = words.split(",")
+            assert len(words) == 11 + 3 * len(pitches), self.text
+            triples = [words[i:i + 3] for i in range(11, len(words), 3)]
+            line += ";N" + ",".join([str(place)] + words[:11] + [w for p, three in zip(pitches, triples) for w in [str(p)] + three])
+        return line + "".join(";B" + b for b in bars) + "".join(";D" + d for d in found)
+
+
+class Case:
+    """a text, what is lent, how many diagnostic cells are looked at, and what the definitions must answer"""
+
+    def __init__(self, text, oracle, r=None, lent=None):
+        expectation = Expectation(text, oracle)
+        self.text = text
+        self.lent = lent or lent_for(r, expectation.needed)
+        self.number, place = expectation.refusal(self.lent)
+        empty = is_ascii(text) and oracle.known[text] == "err Empty"
+        assert self.number not in (0, 4, 5, 13) or (self.number in (4, 5, 13)) == empty, (text, self.number)
+        self.stored = "%d,%d,0,0,0" % (self.number, place) if self.number else expectation.stored()
+        self.found = [int(d.split(",")[0]) for d in oracle.records(text, "D")[:STORED]] if self.number == 0 else []
+        cells = DIAGNOSTIC * self.lent["diagnostics"]
+        self.looked = cells + 1 if r and r.random() < 1 / 8 else DIAGNOSTIC * len(self.found) + 20
+        self.cells = "%d,%d,%d,%d" % (self.lent["notes"], self.lent["bars"], self.lent["figure"], min(cells, self.looked))
+
+    def call(self, name):
+        return "%s %s %d %d %d %d %d" % (name, literal(self.text), self.lent["notes"], self.lent["bars"], self.lent["figure"], self.lent["diagnostics"], self.looked)
+
+    def statement(self):
+        return '%s ≡ "%s;%s"' % (self.call("answer"), self.stored, self.cells)
+
+
+def lent_for(r, needed):
+    """exactly what is needed, more, or too little; broken records too, and now and then too few diagnostics"""
+    lent, kind = {}, r.random()
+    for what, size in UNIT.items():
+        records = needed[what]
+        if kind < 0.15:
+            records = max(0, records - r.choice([0, 0, 1, 1, 2, 4]))
+        elif kind < 0.6:
+            records += r.choice([1, 2, 4, 8])
+        lent[what] = records * size + r.choice([0, 0, 0, 1, size - 1, r.randrange(size)])
+    lent["diagnostics"] = r.choices([0, STORED - 1, STORED, STORED + 1], [1, 2, 500, 5])[0]
+    return lent
+
+
+# ---- the theorems
+
+SHOWN = """\
+-- The answer of `reading` as one line.
+use Prim.Native.Nat.{ℕ, zero, suc, _+_, _-_, _*_, _/_, _%_}
+use Prim.Native.String.{String, _++_, slice}
+use mathlib.Core.Bool.{Bool, true, false, cond, _&&_}
+use mathlib.Core.List.{List, [], _∷_}
+use lib.IntN.{ℤ, pos, negsuc}
+use lib.ListN.{length, take, drop, getD}
+use lib.Dec.{eqb, ltb}
+use Rattle.rules.specs.Limits.{noteSize, barSize, diagnosticSize, pitchSize}
+use Rattle.rules.specs.Text.{bytes}
+use Rattle.rules.specs.Reading.{Lent, Reading, reading}
+
+abbrev pub Words : Type 0
+Words = List ℤ
+
+-- a digit, of base 16 too
+abbrev pub digit : ℕ → String
+digit n = slice "0123456789abcdef" n (n + 1)
+
+-- a number of at most f digits
+abbrev pub decimalIn : ℕ → ℕ → String
+decimalIn zero n = "?"
+decimalIn (suc f) n = cond (ltb n 10) (digit n) (decimalIn f (n / 10) ++ digit (n % 10))
+
+abbrev pub decimal : ℕ → String
+decimal n = decimalIn 8 n
+
+abbrev pub word : ℤ → String
+word (pos n) = decimal n
+word (negsuc n) = "-" ++ decimal (suc n)
+
+-- words, a comma before each
+abbrev pub listed : Words → String
+listed [] = ""
+listed (w ∷ ws) = "," ++ word w ++ listed ws
+
+-- words, a comma between two
+abbrev pub words : Words → String
+words [] = ""
+words (w ∷ ws) = word w ++ listed ws
+
+abbrev pub natural : ℤ → ℕ
+natural (pos n) = n
+natural (negsuc n) = 0
+
+abbrev pub wordAt : Words → ℕ → ℕ
+wordAt ws i = natural (getD ws i (pos 0))
+
+abbrev pub isZero : ℤ → Bool
+isZero (pos n) = eqb n 0
+isZero (negsuc n) = false
+
+abbrev pub allZero : Words → Bool
+allZero [] = true
+allZero (w ∷ ws) = isZero w && allZero ws
+
+-- a `+` where not all are 0
+abbrev pub restShown : Words → String
+restShown ws = cond (allZero ws) "" "+"
+
+-- n records of so many words, each shown
+abbrev pub records : (Words → String) → ℕ → ℕ → Words → String
+records show size zero ws = ""
+records show size (suc n) ws = show (take size ws) ++ records show size n (drop size ws)
+
+-- a note's words up to its pitch count; the rest is 0
+abbrev pub noteShown : Words → String
+noteShown ws = let used = 12 + pitchSize * wordAt ws 10 in ";N" ++ words (take used ws) ++ restShown (drop used ws)
+
+abbrev pub barShown : Words → String
+barShown ws = ";B" ++ words ws
+
+-- bytes in hex
+abbrev pub hex : List ℕ → String
+hex [] = ""
+hex (b ∷ bs) = digit (b / 16) ++ digit (b % 16) ++ hex bs
+
+-- the value: a part of the text; `()`, its words 0, 0; a number, its last word 0
+abbrev pub valueShown : List ℕ → ℕ → ℕ → ℕ → String
+valueShown text kind start end =
+    cond (eqb kind 1) (hex (take (end - start) (drop start text)))
+    (cond (eqb kind 2 && eqb start 0 && eqb end 0) (hex (bytes "()"))
+    (cond (eqb kind 3 && eqb end 0) (hex (bytes (decimal start))) "?"))
+
+abbrev pub diagnosticShown : List ℕ → Words → String
+diagnosticShown text ws = ";D" ++ words (take 4 ws) ++ ",," ++ valueShown text (wordAt ws 3) (wordAt ws 4) (wordAt ws 5)
+
+-- number, place, counts, the stored records
+abbrev pub storedShown : List ℕ → Reading → String
+storedShown text r =
+    decimal (r .number) ++ "," ++ decimal (r .place) ++ "," ++ decimal (r .notes) ++ "," ++ decimal (r .bars) ++ "," ++ decimal (r .diagnostics)
+    ++ records noteShown noteSize (r .notes) (r .noteCells)
+    ++ records barShown barSize (r .bars) (r .barCells)
+    ++ records (diagnosticShown text) diagnosticSize (r .diagnostics) (r .diagnosticCells)
+
+-- how many cells there are; those from n on are 0
+abbrev pub bufferShown : ℕ → Words → String
+bufferShown n ws = decimal (length ws) ++ restShown (drop n ws)
+
+-- the four buffers, the diagnostics' up to so many cells
+abbrev pub cellsShown : ℕ → Reading → String
+cellsShown looked r =
+    bufferShown (noteSize * r .notes) (r .noteCells)
+    ++ "," ++ bufferShown (barSize * r .bars) (r .barCells)
+    ++ "," ++ bufferShown 0 (r .figureCells)
+    ++ "," ++ bufferShown (diagnosticSize * r .diagnostics) (take looked (r .diagnosticCells))
+
+-- lent are so many words for notes, bars and figure, and so many diagnostics
+abbrev pub read : List ℕ → ℕ → ℕ → ℕ → ℕ → Reading
+read text notes bars figure diagnostics = reading text (record { notes = notes; bars = bars; figure = figure; diagnostics = diagnostics })
+
+abbrev pub stored : List ℕ → ℕ → ℕ → ℕ → ℕ → ℕ → String
+stored text notes bars figure diagnostics looked = storedShown text (read text notes bars figure diagnostics)
+
+abbrev pub cells : List ℕ → ℕ → ℕ → ℕ → ℕ → ℕ → String
+cells text notes bars figure diagnostics looked = cellsShown looked (read text notes bars figure diagnostics)
+
+abbrev pub answer : List ℕ → ℕ → ℕ → ℕ → ℕ → ℕ → String
+answer text notes bars figure diagnostics looked = let r = read text notes bars figure diagnostics in storedShown text r ++ ";" ++ cellsShown looked r
+"""
+
+# limits that need a long text or many cells: 65,536 bytes, 65,535 bytes, 131,071 notes
+LIMITS = [
+    ("stored (replicate 65536 32) 0 0 0 1024 0", "1,0,0,0,0"),
+    ("stored (replicate 65535 32) 0 0 0 1024 0", "4,0,0,0,0"),
+    ('stored (bytes "C%s") 8800000 200 8800000 1024 0' % ("/!i!f" * 16), "7,81,0,0,0"),
+]
+
+
+def literal(text):
+    if all(32 <= b < 127 and b not in b'"\\' for b in text):
+        return '(bytes "%s")' % text.decode()
+    return "(" + "".join("%d ∷ " % b for b in text) + "[])"
+
+
+def unfoldable():
+    """by module, the names that compute only in a theorem that names them"""
+    files = sorted((ROOT / "crates" / "rules" / "specs").glob("*.antt"))
+    return {f.stem: re.findall(r"^\s*unfoldable (?:abbrev )?pub (\S+) ", f.read_text(), re.M) for f in files}
+
+
+def write(path, content):
+    path.parent.mkdir(parents=True, exist_ok=True)
+    path.write_text(content)
+
+
+def write_crate(name, module, content):
+    folder = WORK / "crates" / name
+    write(folder / "src" / "lib.rt", "// specs only\n")
+    write(folder / "specs" / "Lib.antt", "pub mod %s\n" % module)
+    write(folder / "specs" / (module + ".antt"), content)
+
+
+def prepare():
+    shutil.rmtree(WORK / "crates", ignore_errors=True)
+    for part in ("src", "specs"):
+        shutil.copytree(ROOT / "crates" / "rules" / part, WORK / "crates" / "rules" / part)
+    write_crate("shown", "Shown", SHOWN)
+
+
+def theorems(statements):
+    names = {module: found for module, found in unfoldable().items() if found}
+    lines = ["use mathlib.Core.Path.{_≡_, refl}", "use mathlib.Core.List.{[], _∷_}", "use Prim.Native.String.{slice}", "use lib.ListN.{replicate}"]
+    lines += ["use Rattle.rules.specs.Text.{bytes}", "use Rattle.shown.specs.Shown.{stored, cells, answer}"]
+    lines += ["use Rattle.rules.specs.%s.{%s}" % (module, ", ".join(found)) for module, found in names.items()]
+    unfolding = "unfolding " + " ".join(n for found in names.values() for n in found)
+    for i, s in enumerate(statements):
+        lines += ["", "t%d : %s" % (i, s), unfolding, "t%d = refl" % i]
+    return "\n".join(lines) + "\n"
+
+
+def check(batches):
+    """proves each batch of statements in a crate of its own, two at a time; of each batch, the messages by statement"""
+    crates = ["texts%d" % i for i in range(len(batches))]
+    write(WORK / "crates.txt", "rules:\nshown: rules\n" + "".join(c + ": rules shown\n" for c in crates))
+    for crate, batch in zip(crates, batches):
+        write_crate(crate, "Texts", theorems(batch))
+    logs = [WORK / "target" / "log" / (c + ".out") for c in crates]
+    for log in logs:
+        log.unlink(missing_ok=True)
+    subprocess.run(["rt", "check"], cwd=WORK, env=dict(os.environ, RT_JOBS="2"), stdout=subprocess.DEVNULL, stderr=subprocess.DEVNULL)
+    answers = []
+    for crate, log in zip(crates, logs):
+        said = log.read_text() if log.exists() else ""
+        parts = re.split(r"^\S*Texts\.antt:\d+:\d+: error: `t(\d+)`", said, flags=re.M)
+        errors = dict(zip(map(int, parts[1::2]), parts[2::2]))
+        if not errors and "rt: %s proved" % crate not in said:
+            sys.exit("rt check could not tell of %s; %s has:\n%s" % (crate, log.relative_to(ROOT), said[-2000:]))
+        answers.append(errors)
+    return answers
+
+
+# ---- differences
+
+
+def smaller(case, oracle):
+    """a smaller text, found by leaving out parts, that still differs"""
+    while len(case.text) < 300:
+        size = len(case.text)
+        spans = sorted({size // 2, size // 4, 3, 2, 1} - {0}, reverse=True)
+        texts = list(dict.fromkeys(case.text[:i] + case.text[i + n:] for n in spans for i in range(size - n + 1)))
+        oracle.ask(texts + [p for t in texts for p in prefixes(t)])
+        cases = [Case(t, oracle, lent=case.lent) for t in texts]
+        errors = check([[c.statement() for c in cases]])[0] if cases else {}
+        if not errors:
+            return case
+        case = min((cases[i] for i in errors), key=lambda c: len(c.text))
+    return case
+
+
+def computed(case):
+    """the stored part as the prover's messages show it, and whether the other cells agree"""
+    size = 80
+    pieces = ['slice (%s) %d %d ≡ ""' % (case.call("stored"), i * size, (i + 1) * size) for i in range(2 * len(case.stored) // size + 3)]
+    errors = check([pieces + ['%s ≡ "%s"' % (case.call("cells"), case.cells)]])[0]
+    found = [re.search(r'"([^"]*)"`\s+\(found\)', errors[i]) for i in range(len(pieces)) if i in errors]
+    return "".join(f[1] if f else "(too long to show)" for f in found), len(pieces) not in errors
+
+
+def report(case, oracle):
+    small = smaller(case, oracle)
+    line, agree = computed(small)
+    print("DIFFERS   %r\nsmaller   %r\nlent      %r\nexpected  %s\ncomputed  %s%s" % (case.text, small.text, small.lent, small.stored, line, "" if agree else "\nother cells differ"), flush=True)
+
+
+# ---- the run
+
+
+def main():
+    options = argparse.ArgumentParser(description="compares the definitions of crates/rules with the original Rust")
+    options.add_argument("--count", type=int, default=5000, help="texts, the short ones among them")
+    options.add_argument("--seed", type=int, default=1)
+    options.add_argument("--batch", type=int, default=250, help="theorems in a file")
+    options.add_argument("--oracle", default=os.environ.get("ORACLE"))
+    given = options.parse_args()
+    if not given.oracle:
+        options.error("--oracle PATH or ORACLE is needed")
+    r = random.Random(given.seed)
+    texts = short_texts()
+    texts = r.sample(texts, min(len(texts), given.count // 4))
+    texts += [random_text(r) for _ in range(given.count - len(texts))] + MANY
+    oracle = Oracle(given.oracle)
+    oracle.ask(texts + [p for t in texts for p in prefixes(t)])
+    cases = [Case(t, oracle, r) for t in texts]
+    r.shuffle(cases)
+    prepare()
+    batches = [cases[i:i + given.batch] for i in range(0, len(cases), given.batch)]
+    limits, *answers = check([['%s ≡ "%s"' % s for s in LIMITS]] + [[c.statement() for c in b] for b in batches])
+    wrong = sorted((b[i] for b, errors in zip(batches, answers) for i in errors), key=lambda c: len(c.text))
+    for case in wrong[:5]:
+        report(case, oracle)
+    for case in wrong[5:]:
+        print("DIFFERS   %r" % case.text)
+    for i in limits:
+        print("DIFFERS   %s\nexpected  %s" % LIMITS[i])
+    numbers = Counter(c.number for c in cases)
+    found = Counter(d for c in cases for d in c.found)
+    print("texts: %d; different: %d" % (len(cases) + len(LIMITS), len(wrong) + len(limits)))
+    print("accepted: %d; refused: %s" % (numbers[0], ", ".join("%d: %d" % (n, numbers[n]) for n in sorted(numbers) if n)))
+    print("diagnostics: " + ", ".join("d%d: %d" % (d, found[d]) for d in range(1, 20)))
+    sys.exit(1 if wrong or limits else 0)
+
+
+if __name__ == "__main__":
+    main()
