@@ -2,23 +2,16 @@ use borrow.Author.Tests.{eq-eqb, ne-eqb, lt-ltb, le-ltb, le-leb, lt-leb}
 use borrow.Author.Needs.{needs}
 use Rattle.steps.proofs.state.bar_attributes.Statement.{statement}
 use Rattle.steps.proofs.state.bar_attributes.Tie as tie
-use Rattle.steps.proofs.state.bar_attributes.Reads as reads
-use Rattle.steps.proofs.state.bar_attributes.Lts as lts
-use Rattle.steps.proofs.state.new_bar.Reads as new-bar-reads
 
--- src/state.rt:170:9
 new-bar-requires : tie.Need-new-bar-requires
 new-bar-requires c κs = search needs
 
--- src/state.rt:170:9
 returns : tie.Need-returns
 returns c = rw (c .before .if1 .taken) (c .new-bar .ensures)
 
--- src/state.rt:174:9
 returns-2 : tie.Need-returns-2
 returns-2 c = rw (c .before .if1 .left, eq-eqb _ _ (c .if2 .taken))
 
--- src/state.rt:166:1
 returns-3 : tie.Need-returns-3
 returns-3 c = rw (c .before .if1 .left, ne-eqb _ _ (c .if2 .left))
 

@@ -2,18 +2,13 @@ use borrow.Author.Tests.{eq-eqb, ne-eqb, lt-ltb, le-ltb, le-leb, lt-leb}
 use borrow.Author.Needs.{needs}
 use Rattle.steps.proofs.state.bar_counted.Statement.{statement}
 use Rattle.steps.proofs.state.bar_counted.Tie as tie
-use Rattle.steps.proofs.state.bar_counted.Reads as reads
-use Rattle.steps.proofs.state.bar_counted.Lts as lts
 
--- src/state.rt:187:9
 add-counts : tie.Need-add-counts
 add-counts c = search needs
 
--- src/state.rt:188:9
 returns : tie.Need-returns
 returns c = rw (lt-ltb _ _ (c .before .if1 .taken))
 
--- src/state.rt:180:1
 returns-2 : tie.Need-returns-2
 returns-2 c = rw (le-ltb _ _ (c .if1 .left))
 

@@ -1,15 +1,10 @@
 use borrow.Author.Needs.{needs}
 use Rattle.steps.proofs.state.beam_opened.Statement.{statement}
 use Rattle.steps.proofs.state.beam_opened.Tie as tie
-use Rattle.steps.proofs.state.beam_opened.Reads as reads
-use Rattle.steps.proofs.state.beam_opened.Lts as lts
-use Rattle.steps.proofs.state.start_at.Reads as start-at-reads
 
--- src/state.rt:251:5
 start-at-requires : tie.Need-start-at-requires
 start-at-requires c κs = search needs
 
--- src/state.rt:248:1
 returns : tie.Need-returns
 returns c = rw (c .start-at .ensures)
 

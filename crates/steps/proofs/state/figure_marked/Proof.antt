@@ -1,24 +1,16 @@
 use borrow.Author.Needs.{needs}
 use Rattle.steps.proofs.state.figure_marked.Statement.{statement}
 use Rattle.steps.proofs.state.figure_marked.Tie as tie
-use Rattle.steps.proofs.state.figure_marked.Reads as reads
-use Rattle.steps.proofs.state.figure_marked.Lts as lts
-use Rattle.steps.proofs.state.no_start.Reads as no-start-reads
-use Rattle.steps.proofs.state.start_at.Reads as start-at-reads
 
--- src/state.rt:241:9
 no-start-requires : tie.Need-no-start-requires
 no-start-requires c κs = search needs
 
--- src/state.rt:242:9
 returns : tie.Need-returns
 returns c = rw (c .before .if1 .taken, c .no-start .ensures)
 
--- src/state.rt:244:5
 start-at-requires : tie.Need-start-at-requires
 start-at-requires c κs = search needs
 
--- src/state.rt:237:1
 returns-2 : tie.Need-returns-2
 returns-2 c = rw (c .before .if1 .left, c .start-at .ensures)
 

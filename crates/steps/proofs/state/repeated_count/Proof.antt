@@ -2,22 +2,16 @@ use borrow.Author.Tests.{eq-eqb, ne-eqb, lt-ltb, le-ltb, le-leb, lt-leb}
 use borrow.Author.Needs.{needs}
 use Rattle.steps.proofs.state.repeated_count.Statement.{statement}
 use Rattle.steps.proofs.state.repeated_count.Tie as tie
-use Rattle.steps.proofs.state.repeated_count.Reads as reads
-use Rattle.steps.proofs.state.repeated_count.Lts as lts
 
--- src/state.rt:208:9
 returns : tie.Need-returns
 returns c = rw (lt-ltb _ _ (c .if1 .taken))
 
--- src/state.rt:211:9
 returns-2 : tie.Need-returns-2
 returns-2 c = rw (le-ltb _ _ (c .before .before .if1 .left), eq-eqb _ _ (c .if2 .taken))
 
--- src/state.rt:213:5
 sub-result : tie.Need-sub-result
 sub-result c = search needs
 
--- src/state.rt:203:1
 returns-3 : tie.Need-returns-3
 returns-3 c = rw (le-ltb _ _ (c .before .before .before .if1 .left), ne-eqb _ _ (c .before .if2 .left))
 

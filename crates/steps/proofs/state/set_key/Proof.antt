@@ -4,15 +4,10 @@ use mathlib.Core.Path.{sym}
 use borrow.Author.Needs.{needs}
 use Rattle.steps.proofs.state.set_key.Statement.{statement}
 use Rattle.steps.proofs.state.set_key.Tie as tie
-use Rattle.steps.proofs.state.set_key.Reads as reads
-use Rattle.steps.proofs.state.set_key.Lts as lts
-use Rattle.values.proofs.attributes.key_of.Reads as key-of-reads
 
--- src/state.rt:46:9
 key-of-requires : tie.Need-key-of-requires
 key-of-requires c κs = search needs
 
--- src/state.rt:43:1
 returns : tie.Need-returns
 returns c = rw (sym (c .before .before .key-of .ensures), toZ-ofZ {w = w8} {z = c .before .before .key-of .result .fifths} (record { sfits = c .struct-told .given .1 .0 .1 }))
 

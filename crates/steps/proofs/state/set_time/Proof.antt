@@ -2,27 +2,19 @@ use mathlib.Core.Path.{sym}
 use borrow.Author.Needs.{needs}
 use Rattle.steps.proofs.state.set_time.Statement.{statement}
 use Rattle.steps.proofs.state.set_time.Tie as tie
-use Rattle.steps.proofs.state.set_time.Reads as reads
-use Rattle.steps.proofs.state.set_time.Lts as lts
-use Rattle.values.proofs.attributes.meter_of.Reads as meter-of-reads
 
--- src/state.rt:58:9
 meter-of-requires : tie.Need-meter-of-requires
 meter-of-requires c κs = search needs
 
--- src/state.rt:62:13
 enum-known-meter : tie.Need-enum-known-meter
 enum-known-meter c = search needs
 
--- src/state.rt:71:27
 enum-told : tie.Need-enum-told
 enum-told c = search needs
 
--- src/state.rt:55:1
 returns : tie.Need-returns
 returns c = rw (sym (c .before .before .before .meter-of .ensures), c .before .meter .given .1)
 
--- src/state.rt:55:1
 returns-2 : tie.Need-returns-2
 returns-2 c = rw (sym (c .before .before .meter-of .ensures), c .enum-told .given .1)
 

@@ -1,0 +1,379 @@
+-- The walk over the data's tokens: what holds between two tokens, that it goes on, stops and ends as the rules say. Assumes nothing.
+use Prim.Native.Nat.{ℕ, zero, suc, _+_, _-_, _*_, _<_, _≤_}
+use native.Mathlib.Omega.{arith}
+use mathlib.Core.Path.{_≡_, refl, sym, ap, subst, _∙_}
+use mathlib.Core.Bool.{Bool, true, false, cond}
+use mathlib.Core.Option.{Option, none, some}
+use mathlib.Core.List.{List, [], _∷_, _++_, map, map-append}
+use lib.IntN.{ℤ}
+use lib.ListN.{length, getD, take, drop, length-drop}
+use lib.Seq.{slice, length-take-le}
+use Rattle.values.proofs.SliceLaws.{slice-part, slice-more}
+use lib.Dec.{eqb, leb}
+use borrow.Author.Tests.{ne-eqb, leb-true}
+use Rattle.text.proofs.BoolLaws.{both}
+use Rattle.rules.specs.Limits.{noteLimit, noteSize, barSize, textLimit}
+use Rattle.rules.specs.Cut.{tokenSize}
+use Rattle.rules.specs.Tokens.{Item, tokenOf, itemAt, itemsAfter}
+use Rattle.rules.specs.Records.{_or_, given, isEmpty, Diagnostic}
+use Rattle.rules.specs.Rules as rules
+use Rattle.rules.specs.Rules.{step, stateAfter}
+use Rattle.rules.specs.Diagnostics.{tokenDiagnosed, dataDiagnosed}
+use Rattle.rules.specs.Refusals.{Limits, Refusal, refusal, tokenRefusal, tokensRefusal}
+use Rattle.rules.specs.Words.{diagnosticWords}
+use Rattle.text.proofs.PartLaws.{next-element}
+use Rattle.text.proofs.TokenLaws.{token-some, token-within}
+use Rattle.text.proofs.WalkLaws.{tokenAt, items-step, items-end}
+use Rattle.values.specs.Rhythm.{Keeping, lengthIn, Standing}
+use Rattle.values.specs.declared.rhythm.Cursor.{Cursor}
+use Rattle.values.specs.declared.pae.Counts.{Counts}
+use Rattle.values.specs.declared.pae.Pae.{Pae}
+use Rattle.decode.specs.declared.Figure.the-variants as f
+use Rattle.decode.specs.declared.Marking.the-variants as m
+use Rattle.decode.specs.declared.Token.{Token}
+use Rattle.decode.specs.declared.Token.the-variants as t
+use Rattle.decode.specs.Decode.{tokenIn, Fine, Decoded}
+use Rattle.steps.specs.State.{hasContent, openLength, repeatedCount}
+use Rattle.steps.specs.Accidentals.{Table}
+use Rattle.steps.specs.Notes.{endsOf, joinsOf}
+use Rattle.steps.specs.Steps.{countsNext, figureNext, tableNext, stepped}
+use Rattle.steps.specs.Relation.{numberIn, countIn, Stored}
+use Rattle.simulation.proofs.Choices.{pick}
+use Rattle.simulation.proofs.Items.{itemIn, item-decoded}
+use Rattle.simulation.proofs.CountLaws.{open-length, has-content, ends-agree, joins-agree}
+use Rattle.storing.proofs.FigureLaws.{figure-count, figure-fits}
+use Rattle.storing.proofs.ReadLaws.{first-below, last-below, length-notes}
+use Rattle.checks.specs.declared.Room.{Room}
+use Rattle.checks.specs.Checks.{checkOf}
+use Rattle.checks.proofs.TestLaws.{joins-some}
+use Rattle.checks.proofs.CheckLaws as checks
+use Rattle.checks.proofs.CheckLaws.{lentIn, check-agrees}
+use Rattle.diagnose.specs.Found.{countAfterAll, cellsAfterAll}
+use Rattle.remarks.specs.Remarks.{valueFrom, itemFrom, tokenFound}
+use Rattle.remarks.proofs.RemarkLaws.{openGroup, remarks-agree}
+use Rattle.records.specs.Diagnostics.{countAfter, diagnosed}
+use Rattle.reading.specs.Walk.{withDiagnostics}
+use Rattle.records.specs.Notes.{markCountAt, marksAt}
+use Rattle.records.specs.Groups.{timedCount}
+use Rattle.records.proofs.CellLaws.{record-word}
+use Rattle.reading.specs.Cells.{recordFrom, countFrom, closingIn, notesNext, barsNext, heldNext}
+use Rattle.reading.specs.Ready.{Within, HasPlace, Asked, Ready}
+use Rattle.reading.specs.Rhythm.{takenNext, patternNext, cursorNext}
+use Rattle.reading.proofs.TokenLaws as one
+use Rattle.reading.proofs.TokenLaws.{Related, token-related}
+use Rattle.reading.proofs.TakingLaws.{rhythm-agrees, taken-agrees}
+
+-- ---- bounds that a token keeps
+
+bars-more : (token : Token) (joined : Bool) (n : ℕ) (c : Counts) → countsNext token joined n c .bars ≤ c .bars + 1
+bars-more t.Clef joined n c = omega arith
+bars-more t.Key joined n c = omega arith
+bars-more t.Meter joined n c = omega arith
+bars-more (t.Octave octave) joined n c = omega arith
+bars-more t.Duration joined n c = omega arith
+bars-more (t.Accidental alter) joined n c = omega arith
+bars-more (t.Letter name) true n c = omega arith
+bars-more (t.Letter name) false n c = omega arith
+bars-more t.Chord joined n c = omega arith
+bars-more t.Rest joined n c = omega arith
+bars-more (t.Barline barline) joined n c = pick (λ (d : Counts). d .bars ≤ c .bars + 1) (hasContent c) (record { notes = c .notes; first = c .notes; last = c .first; bars = c .bars + 1 }) c (omega arith) (omega arith)
+bars-more (t.Grace slashed) joined n c = omega arith
+bars-more (t.GraceGroup begins) joined n c = omega arith
+bars-more (t.Figure f.Mark) joined n c = omega arith
+bars-more (t.Figure f.Repeat) joined n c = omega arith
+bars-more (t.Figure f.Bar) joined n c = omega arith
+bars-more (t.Marking marking) joined n c = omega arith
+bars-more t.Blank joined n c = omega arith
+bars-more t.Colon joined n c = omega arith
+bars-more t.MeasureRest joined n c = omega arith
+bars-more t.Unknown joined n c = omega arith
+
+figure-small : (token : Token) (st : Pae) → st .figure ≤ noteLimit → st .counts .notes ≤ noteLimit → figureNext token st ≤ noteLimit
+figure-small t.Clef st h g = h
+figure-small t.Key st h g = h
+figure-small t.Meter st h g = h
+figure-small (t.Octave octave) st h g = h
+figure-small t.Duration st h g = h
+figure-small (t.Accidental alter) st h g = h
+figure-small (t.Letter name) st h g = h
+figure-small t.Chord st h g = h
+figure-small t.Rest st h g = h
+figure-small (t.Barline barline) st h g = h
+figure-small (t.Grace slashed) st h g = h
+figure-small (t.GraceGroup begins) st h g = h
+figure-small (t.Figure f.Mark) st h g = go (st .groups .figure .noted)
+  where
+    n : ℕ
+    n = openLength (st .counts)
+
+    go : (noted : Bool) → cond noted (cond (leb (st .groups .figure .length) n) (n - st .groups .figure .length) (st .figure)) (st .figure) ≤ noteLimit
+    go false = h
+    go true = pick (λ (x : ℕ). x ≤ noteLimit) (leb (st .groups .figure .length) n) (n - st .groups .figure .length) (st .figure) (omega arith) h
+figure-small (t.Figure f.Repeat) st h g = h
+figure-small (t.Figure f.Bar) st h g = h
+figure-small (t.Marking marking) st h g = h
+figure-small t.Blank st h g = h
+figure-small t.Colon st h g = h
+figure-small t.MeasureRest st h g = h
+figure-small t.Unknown st h g = h
+
+no-elements : {A : Type 0} (l : List A) → eqb (length l) 0 ≡ isEmpty l
+no-elements [] = refl
+no-elements (x ∷ l) = ne-eqb (suc (length l)) 0 (λ z. omega arith)
+
+-- more diagnostics after others
+count-all : (xs ys : List (List ℤ)) (n : ℕ) → countAfterAll n (xs ++ ys) ≡ countAfterAll (countAfterAll n ys) xs
+count-all [] ys n = refl
+count-all (x ∷ xs) ys n = ap countAfter (count-all xs ys n)
+
+cells-all : (xs ys : List (List ℤ)) (l : List ℤ) (n : ℕ) → cellsAfterAll l n (xs ++ ys) ≡ cellsAfterAll (cellsAfterAll l n ys) (countAfterAll n ys) xs
+cells-all [] ys l n = refl
+cells-all (x ∷ xs) ys l n = λ i. diagnosed (cells-all xs ys l n i) (count-all xs ys n i) x
+
+-- ---- the data
+
+-- count₀, scratch₀: the diagnostics that were stored before the data
+module _ (data′ : List ℕ) (start : ℕ) (k : rules.Attributes) (count₀ : ℕ) (scratch₀ : List ℤ) (size barsSize figureSize : ℕ) (room : Room) (cells : ℕ) where
+  abbrev lent : Limits
+  lent = lentIn room cells
+
+  -- before the offset `at` of the data, with the tokens `before` it read and none refused
+  pub record Holds (at : ℕ) (st : Pae) (table : Table) (pattern : Keeping) (cursor : Cursor) (notes bars held scratch : List ℤ) : Type 0 where
+    pub before : List Item
+    pub within : at ≤ length data′
+    pub reads : itemsAfter 0 1 start data′ [] ≡ itemsAfter 0 (at + 1) (start + at) (drop at data′) before
+    pub clean : tokensRefusal lent k before ≡ none
+    pub related : Related size barsSize (stateAfter k before) st table notes bars held
+    pub rhythm : Standing data′ pattern cursor (stateAfter k before .pattern) (stateAfter k before .taken)
+    pub counted : st .diagnostics ≡ countAfterAll count₀ (map diagnosticWords (dataDiagnosed k before))
+    pub written : scratch ≡ cellsAfterAll scratch₀ count₀ (map diagnosticWords (dataDiagnosed k before))
+    pub few : st .counts .bars ≤ at
+    pub small : st .figure ≤ noteLimit
+    pub barsLength : length bars ≡ barsSize
+    pub figureLength : length held ≡ figureSize
+    pub scratchLength : length scratch ≡ length scratch₀
+
+  -- a refusal stays
+  refusal-later : (r : Refusal) (j p o : ℕ) (xs : List ℕ) (e : List Item) → tokensRefusal lent k e ≡ some r → tokensRefusal lent k (itemsAfter j p o xs e) ≡ some r
+  unfolding itemsAfter tokensRefusal
+  refusal-later r j p o [] e h = h
+  refusal-later r zero p o (x ∷ xs) e h = refusal-later r (tokenSize (x ∷ xs) - 1) (p + 1) (o + 1) xs (itemAt p o x xs ∷ e) (ap (λ (q : Option Refusal). q or given (tokenRefusal lent (itemAt p o x xs .token) (stateAfter k e)) none (λ n. some (refusal n (itemAt p o x xs .place)))) h)
+  refusal-later r (suc j) p o (x ∷ xs) e h = refusal-later r j (p + 1) (o + 1) xs e h
+
+  module _ {at : ℕ} {st : Pae} {table : Table} {pattern : Keeping} {cursor : Cursor} {notes bars held scratch : List ℤ} (w : Holds at st table pattern cursor notes bars held scratch) where
+    abbrev pub s : rules.State
+    s = stateAfter k (w .before)
+
+    -- ---- it goes on
+
+    module _ (inside : at < length data′) (end : ℕ) (ends : end ≡ at + tokenSize (drop at data′)) (token : Token) (decoded : Decoded (getD data′ at 0) (end - at) token)
+        (joined : Bool) (joins : joinsOf (st .voice) (st .counts) notes ≡ joined) where
+      abbrev item : Item
+      item = itemIn (at + 1) (start + at) (end - at) (getD data′ at 0) (valueFrom data′ at end) token
+
+      pub further : at < end
+      further = omega (arith, token-some data′ at inside)
+
+      pub not-beyond : end ≤ length data′
+      not-beyond = omega (arith, token-within data′ at inside)
+
+      first : drop at data′ ≡ getD data′ at 0 ∷ drop (at + 1) data′
+      first = next-element data′ at inside
+
+      item-is : tokenAt data′ at (at + 1) (start + at) ≡ item
+      item-is =
+          let z : end - at ≡ tokenSize (getD data′ at 0 ∷ drop (at + 1) data′) = omega (arith, ap tokenSize first) in
+          let l : end - at ≤ 1 + length (drop (at + 1) data′) = omega (arith, not-beyond, length-drop (at + 1) data′) in
+          let y : end - at - 1 ≡ end - (at + 1) = omega arith in
+          item-decoded (at + 1) (start + at) (getD data′ at 0) (drop (at + 1) data′) (end - at) token z (omega (arith, further)) l decoded
+          ∙ ap (λ (n : ℕ). itemIn (at + 1) (start + at) (end - at) (getD data′ at 0) (take n (drop (at + 1) data′)) token) y
+
+      reads-on : itemsAfter 0 1 start data′ [] ≡ itemsAfter 0 (end + 1) (start + end) (drop end data′) (item ∷ w .before)
+      reads-on =
+          let z : at + 1 + tokenSize (drop at data′) ≡ end + 1 = omega arith in
+          let y : start + at + tokenSize (drop at data′) ≡ start + end = omega arith in
+          w .reads ∙ items-step data′ at inside (at + 1) (start + at) (w .before) ∙ (λ i. itemsAfter 0 (z i) (y i) (drop (sym ends i) data′) (item-is i ∷ w .before))
+
+      rules-join : rules.joins s ≡ joined
+      rules-join = sym (joins-agree (w .related .voice) (w .related .stored)) ∙ joins
+
+      checked : tokenRefusal lent (item .token) s ≡ numberIn (checkOf token st joined notes room)
+      checked = check-agrees st room cells (w .related .stored) (w .related .groups) (sym (figure-count (w .related .figured))) (sym rules-join) (getD data′ at 0) (valueFrom data′ at end) token
+
+      refused-here : tokensRefusal lent k (item ∷ w .before) ≡ given (numberIn (checkOf token st joined notes room)) none (λ n. some (refusal n (at + 1)))
+      unfolding tokensRefusal
+      refused-here = λ i. w .clean i or given (checked i) none (λ n. some (refusal n (at + 1)))
+
+      -- ---- it stops
+
+      pub refuses : (n : ℕ) → n ≡ checkOf token st joined notes room → (n ≡ 0 → ⊥) → tokensRefusal lent k (itemsAfter 0 1 start data′ []) ≡ some (refusal n (at + 1))
+      refuses n e z =
+          ap (tokensRefusal lent k) reads-on ∙ refusal-later (refusal n (at + 1)) 0 (end + 1) (start + end) (drop end data′) (item ∷ w .before)
+          (refused-here ∙ ap (λ (m : ℕ). given (numberIn m) none (λ j. some (refusal j (at + 1)))) (sym e) ∙ ap (λ (q : Bool). given (cond q none (some n)) none (λ j. some (refusal j (at + 1)))) (ne-eqb n 0 z))
+
+      -- ---- it goes on
+
+      module _ (passes : checkOf token st joined notes room ≡ 0) (lends : room .notes * noteSize ≤ size) (lendsBars : room .bars * barSize ≤ barsSize) where
+        -- a token whose checks pass has room
+        roomy : (x : Token) → checkOf x st joined notes room ≡ 0 → one.Room size barsSize st joined notes x
+        roomy t.Clef e = tt
+        roomy t.Key e = tt
+        roomy t.Meter e = tt
+        roomy (t.Octave octave) e = tt
+        roomy t.Duration e = tt
+        roomy (t.Accidental alter) e = tt
+        roomy (t.Letter name) e = (λ j. checks.join-ready st joined notes room name j e, λ j. checks.open-ready st joined notes room (w .related .stored) lends name j e)
+        roomy t.Chord e = tt
+        roomy t.Rest e = checks.rest-ready st joined notes room (w .related .stored) lends e
+        roomy (t.Barline barline) e = λ h. omega (arith, checks.bar-ready st joined notes room barsSize barline lendsBars h e)
+        roomy (t.Grace slashed) e = tt
+        roomy (t.GraceGroup begins) e = tt
+        roomy (t.Figure f.Mark) e = tt
+        roomy (t.Figure f.Repeat) e = checks.repeat-ready st joined notes room (w .related .stored) lends e
+        roomy (t.Figure f.Bar) e = checks.repeat-bar-ready st joined notes room (w .related .stored) lends e
+        roomy (t.Marking marking) e = tt
+        roomy t.Blank e = tt
+        roomy t.Colon e = tt
+        roomy t.MeasureRest e = tt
+        roomy t.Unknown e = tt
+
+        clean-on : tokensRefusal lent k (item ∷ w .before) ≡ none
+        clean-on = refused-here ∙ ap (λ (n : ℕ). given (numberIn n) none (λ j. some (refusal j (at + 1)))) passes
+
+        token-is : tokenIn (getD data′ at 0) (valueFrom data′ at end) token ≡ tokenOf (getD data′ at 0) (valueFrom data′ at end)
+        token-is =
+            let l : end - (at + 1) ≤ length (drop (at + 1) data′) = omega (arith, not-beyond, length-drop (at + 1) data′) in
+            decoded .0 (valueFrom data′ at end) (omega (arith, further, length-take-le (end - (at + 1)) (drop (at + 1) data′) l))
+
+        bytes-are : slice at end data′ ≡ getD data′ at 0 ∷ valueFrom data′ at end
+        bytes-are = slice-more at end data′ 0 further not-beyond ∙ ap (λ (l : List ℕ). getD data′ at 0 ∷ l) (slice-part (at + 1) end data′)
+
+        -- ---- what the step asks
+
+        module _ (short : length data′ ≤ textLimit) (lendsFigure : room .figure * noteSize ≤ figureSize) where
+          within-here : Within (st .counts) notes
+          within-here = record {
+            last = last-below (w .related .stored);
+            first = first-below (w .related .stored);
+            notes = omega (arith, w .related .stored .fits, length-notes (w .related .stored));
+            capped = w .related .stored .capped;
+            bars = omega (arith, w .few, inside);
+          }
+
+          place : (n : ℕ) → one.Fits size st n → HasPlace n (st .counts) notes
+          place n h = (omega (arith, h .0, length-notes (w .related .stored)), h .1)
+
+          asked : (x : Token) → Fine (getD data′ at 0) x → checkOf x st joined notes room ≡ 0 → Asked x st joined notes bars held
+          asked t.Clef h e = tt
+          asked t.Key h e = tt
+          asked t.Meter h e = tt
+          asked (t.Octave octave) h e = tt
+          asked t.Duration h e = tt
+          asked (t.Accidental alter) h e = tt
+          asked (t.Letter name) h e = (
+            h,
+            record {
+              within = within-here;
+              octave = w .related .voice .low;
+              joins = λ j. (joins-some (st .voice) (st .counts) notes (joins ∙ j), roomy (t.Letter name) e .0 j);
+              opens = λ j. place 1 (roomy (t.Letter name) e .1 j);
+            },
+          )
+          asked t.Chord h e = tt
+          asked t.Rest h e = record { within = within-here; place = place 1 (roomy t.Rest e) }
+          asked (t.Barline barline) h e = (λ f. omega (arith, roomy (t.Barline barline) e f, w .barsLength), omega (arith, w .related .stored .capped))
+          asked (t.Grace slashed) h e = tt
+          asked (t.GraceGroup begins) h e = tt
+          asked (t.Figure f.Mark) h e = record {
+            within = within-here;
+            room = λ r. let z = both (st .groups .figure .noted) (leb (st .groups .figure .length) (openLength (st .counts))) r in
+                omega (arith, checks.figure-ready st joined notes room figureSize lendsFigure (z .0) (leb-true (st .groups .figure .length) (openLength (st .counts)) (z .1)) e, w .figureLength);
+          }
+          asked (t.Figure f.Repeat) h e = (record { within = within-here; place = place (st .figure) (roomy (t.Figure f.Repeat) e) }, figure-fits (w .related .figured))
+          asked (t.Figure f.Bar) h e = record { within = within-here; place = place (repeatedCount (st .counts)) (roomy (t.Figure f.Bar) e) }
+          asked (t.Marking m.BeamOpen) h e = tt
+          asked (t.Marking m.BeamClose) h e = tt
+          asked (t.Marking m.GroupOpen) h e = tt
+          asked (t.Marking m.GroupCount) h e = tt
+          asked (t.Marking m.GroupClose) h e = record {
+            within = within-here;
+            count = w .related .groups .count;
+            room = λ n c. checks.fermata-ready st joined notes room (w .related .stored) n (reached c) e .1;
+          }
+            where
+              closed : rules.Closing
+              closed = rules.closing (timedCount (drop (recordFrom (st .groups .paren) (st .counts) * noteSize) notes) (countFrom (st .groups .paren) (st .counts))) (countIn (st .groups .count))
+
+              reached : closingIn st notes ≡ rules.fermata → closed ≡ rules.fermata
+              reached = go (leb (st .groups .paren .length) (openLength (st .counts)))
+                where
+                  go : (b : Bool) → cond b closed rules.nothing ≡ rules.fermata → closed ≡ rules.fermata
+                  go true q = q
+                  go false q = let z : _≡_ {A = ℕ} 0 1 = cc in absurd (omega arith)
+          asked (t.Marking m.Tie) h e = tt
+          asked (t.Marking m.Trill) h e = record { within = within-here; room = λ f. let r = checks.trill-ready st joined notes room (w .related .stored) f e in (rw (record-word noteSize notes (st .counts .notes - 1) markCountAt (omega arith)) (r .0), rw (record-word noteSize notes (st .counts .notes - 1) marksAt (omega arith)) (r .1)) }
+          asked t.Blank h e = tt
+          asked t.Colon h e = tt
+          asked t.MeasureRest h e = tt
+          asked t.Unknown h e = tt
+
+          pub step-ready : Ready token st joined notes bars held
+          step-ready = record { within = within-here; asked = asked token (decoded .1) passes }
+
+        module _ (closing : rules.Closing) (closes : token ≡ t.Marking m.GroupClose → st .groups .paren .noted ≡ true → closing ≡ rules.closingOf (openGroup (st .groups)) s) where
+          -- the words of what the token diagnoses
+          abbrev pub found : List (List ℤ)
+          found = map diagnosticWords (tokenFound token (valueFrom data′ at end) st (endsOf (st .counts) notes) closing (itemFrom data′ start at end token))
+
+          found-is : tokenFound token (valueFrom data′ at end) st (endsOf (st .counts) notes) closing (itemFrom data′ start at end token) ≡ tokenDiagnosed item s (item .token)
+          found-is = remarks-agree st s (endsOf (st .counts) notes) closing (valueFrom data′ at end) (itemFrom data′ start at end token) (w .related .voice) (w .related .groups)
+              (has-content (s .openBar) (w .related .stored)) (open-length (w .related .stored)) (ap (λ (n : ℕ). eqb n 0) (figure-count (w .related .figured)) ∙ no-elements (s .figure))
+              (ap (λ (n : ℕ). eqb n 0) (w .related .stored .bars) ∙ no-elements (s .bars)) (ends-agree (s .openBar) (w .related .stored)) (getD data′ at 0) token closes
+
+          pub goes-on : length (barsNext token st bars) ≡ length bars → length (heldNext token st notes held) ≡ length held → length (cellsAfterAll scratch (st .diagnostics) found) ≡ length scratch
+              → let k′ = patternNext token data′ at end pattern in let v = takenNext token joined (st .voice) data′ pattern cursor in
+              Holds end (withDiagnostics (countAfterAll (st .diagnostics) found) (stepped token (valueFrom data′ at end) joined (endsOf (st .counts) notes) st)) (tableNext token (st .voice) table)
+              k′ (cursorNext token (k′ .pattern) (v .next)) (notesNext token st joined (lengthIn v) table (at + 1) held notes) (barsNext token st bars) (heldNext token st notes held) (cellsAfterAll scratch (st .diagnostics) found)
+          unfolding stateAfter dataDiagnosed stepped
+          goes-on lb lf ls = record {
+            before = item ∷ w .before;
+            within = not-beyond;
+            reads = reads-on;
+            clean = clean-on;
+            related = related-on;
+            rhythm = rhythm-agrees (at + 1) (start + at) (end - at) (getD data′ at 0) (valueFrom data′ at end) data′ s st (w .rhythm) (w .related .voice) joined rules-join at end not-beyond bytes-are token token-is;
+            counted = ap (λ (n : ℕ). countAfterAll n found) (w .counted) ∙ sym (count-all found (map diagnosticWords (dataDiagnosed k (w .before))) count₀) ∙ ap (countAfterAll count₀) found-on;
+            written = (λ i. cellsAfterAll (w .written i) (w .counted i) found) ∙ sym (cells-all found (map diagnosticWords (dataDiagnosed k (w .before))) scratch₀ count₀) ∙ ap (cellsAfterAll scratch₀ count₀) found-on;
+            few = omega (arith, bars-more token joined (st .figure) (st .counts), w .few, further);
+            small = figure-small token st (w .small) (w .related .stored .capped);
+            barsLength = lb ∙ w .barsLength;
+            figureLength = lf ∙ w .figureLength;
+            scratchLength = ls ∙ w .scratchLength;
+          }
+            where
+              plain : Related size barsSize (step item s) (stepped token (valueFrom data′ at end) joined (endsOf (st .counts) notes) st) (tableNext token (st .voice) table)
+                  (notesNext token st joined (rules.nextValue s) table (at + 1) held notes) (barsNext token st bars) (heldNext token st notes held)
+              plain = token-related (at + 1) (start + at) (end - at) (getD data′ at 0) (valueFrom data′ at end) (w .related) joined joins (rules.nextValue s) refl token (decoded .1) (roomy token passes)
+
+              notes-are : notesNext token st joined (rules.nextValue s) table (at + 1) held notes ≡ notesNext token st joined (lengthIn (takenNext token joined (st .voice) data′ pattern cursor)) table (at + 1) held notes
+              notes-are = sym (taken-agrees (at + 1) (start + at) (end - at) (getD data′ at 0) (valueFrom data′ at end) data′ s st (w .rhythm) (w .related .voice) joined rules-join token table held notes)
+
+              related-on : Related size barsSize (step item s) (withDiagnostics (countAfterAll (st .diagnostics) found) (stepped token (valueFrom data′ at end) joined (endsOf (st .counts) notes) st)) (tableNext token (st .voice) table)
+                  (notesNext token st joined (lengthIn (takenNext token joined (st .voice) data′ pattern cursor)) table (at + 1) held notes) (barsNext token st bars) (heldNext token st notes held)
+              related-on = record {
+                voice = plain .voice;
+                attributes = plain .attributes;
+                groups = plain .groups;
+                tabled = plain .tabled;
+                stored = subst (λ (l : List ℤ). Stored size (step item s .openBar) (step item s .bars) (countsNext token joined (st .figure) (st .counts)) l) notes-are (plain .stored);
+                barred = plain .barred;
+                figured = plain .figured;
+              }
+
+              found-on : found ++ map diagnosticWords (dataDiagnosed k (w .before)) ≡ map diagnosticWords (dataDiagnosed k (item ∷ w .before))
+              found-on = ap (λ (ds : List Diagnostic). map diagnosticWords ds ++ map diagnosticWords (dataDiagnosed k (w .before))) found-is ∙ sym (map-append diagnosticWords (tokenDiagnosed item s (item .token)) (dataDiagnosed k (w .before)))
+
+    -- ---- it ends
+
+    pub ended : length data′ ≤ at → itemsAfter 0 1 start data′ [] ≡ w .before
+    ended h = w .reads ∙ items-end data′ at h (at + 1) (start + at) (w .before)

@@ -1,0 +1,8 @@
+-- Laws that the proofs cite.
+pub mod ClosingLaws
+pub mod TokenLaws
+pub mod TakingLaws
+pub mod HoldLaws
+pub mod OtherLaws
+pub mod DataLaws
+pub mod ReadingLaws

@@ -1,0 +1,9 @@
+use borrow.Author.Needs.{needs}
+use Rattle.reading.proofs.step.meter.Statement.{statement}
+use Rattle.reading.proofs.step.meter.Tie as tie
+
+pub meter-spec : {M : Type 1} → statement M
+meter-spec = tie.close (tie.spec
+    (λ c κs. search needs)
+    (λ c κs. search needs)
+    (λ c. rw (c .taken .ensures, c .before .set-time .ensures)))

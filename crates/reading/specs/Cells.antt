@@ -1,0 +1,160 @@
+-- What each kind of token makes of the lent cells. Assumes nothing.
+use Prim.Native.Nat.{ℕ, _+_, _-_, _*_}
+use mathlib.Core.Bool.{Bool, cond, _&&_}
+use mathlib.Core.List.{List}
+use lib.IntN.{ℤ, pos}
+use lib.ListN.{getD, take, drop}
+use lib.Dec.{leb}
+use Rattle.rules.specs.Limits.{noteSize}
+use Rattle.rules.specs.Values.{Length, normalOf}
+use Rattle.rules.specs.Rules.{Closing, nothing, fermata, tuplet, tooFew, closing}
+use Rattle.records.specs.Cells.{written}
+use Rattle.records.specs.Copies.{copies}
+use Rattle.records.specs.Groups.{timedCount, walked, notatedWords, beamed, fermataIn, onPart}
+use Rattle.records.specs.declared.group.Notation.the-variants.{Tuplet}
+use Rattle.values.specs.declared.pae.Counts.{Counts}
+use Rattle.values.specs.declared.pae.Start.{Start}
+use Rattle.values.specs.declared.pae.Pae.{Pae}
+use Rattle.decode.specs.declared.Figure.{Figure}
+use Rattle.decode.specs.declared.Figure.the-variants as f
+use Rattle.decode.specs.declared.Marking.{Marking}
+use Rattle.decode.specs.declared.Marking.the-variants as m
+use Rattle.decode.specs.declared.Token.{Token}
+use Rattle.decode.specs.declared.Token.the-variants as t
+use Rattle.steps.specs.State.{hasContent, openLength, repeatedCount}
+use Rattle.steps.specs.Accidentals.{Table, entry, alterOf}
+use Rattle.steps.specs.Bars.{storedBars}
+use Rattle.steps.specs.Notes.{endsOf, joinedCells, openedCells, restCells, tiedCells, trilledCells}
+use Rattle.steps.specs.Relation.{countIn}
+
+-- ---- parts of the open bar
+
+-- a start that is noted and not beyond the bar's length
+abbrev pub reaches : Start → Counts → Bool
+reaches start c = start .noted && leb (start .length) (openLength c)
+
+-- the record at a start, and how many there are from it on
+abbrev pub recordFrom : Start → Counts → ℕ
+recordFrom start c = c .first + start .length
+
+abbrev pub countFrom : Start → Counts → ℕ
+countFrom start c = openLength c - start .length
+
+-- ---- letters
+
+abbrev pub letterCells : ℕ → Pae → Bool → Length → Table → ℕ → List ℤ → List ℤ
+letterCells step st joined length table place cells =
+    let v = st .voice in
+    let alter = alterOf (v .accidental) (entry table step (v .octave)) (getD (st .attributes .alters) step (pos 0)) in
+    cond joined (joinedCells (st .counts) v step alter place cells) (openedCells (st .counts) v length step alter place cells)
+
+-- ---- figures
+
+abbrev pub figureCopied : Pae → ℕ → List ℤ → List ℤ → List ℤ
+figureCopied st place cells held = written cells (st .counts .notes * noteSize) (copies place (st .counts .bars + 1) held (st .figure))
+
+abbrev pub barCopied : Pae → ℕ → List ℤ → List ℤ
+barCopied st place cells = let c = st .counts in
+    written cells (c .notes * noteSize) (copies place (c .bars + 1) (drop (c .last * noteSize) cells) (repeatedCount c))
+
+abbrev pub figureCells : Figure → Pae → ℕ → List ℤ → List ℤ → List ℤ
+figureCells figure st place cells held = elim figure [ f.Mark ↦ cells | f.Repeat ↦ figureCopied st place cells held | f.Bar ↦ barCopied st place cells ]
+
+-- the figure after a closing `!`
+abbrev pub figureTaken : Pae → List ℤ → List ℤ → List ℤ
+figureTaken st cells held = let start = st .groups .figure in let c = st .counts in
+    cond (reaches start c) (written held 0 (take (countFrom start c * noteSize) (drop (recordFrom start c * noteSize) cells))) held
+
+abbrev pub figureHeld : Figure → Pae → List ℤ → List ℤ → List ℤ
+figureHeld figure st cells held = elim figure [ f.Mark ↦ figureTaken st cells held | f.Repeat ↦ held | f.Bar ↦ held ]
+
+-- ---- groups and marks
+
+abbrev pub beamCells : Pae → List ℤ → List ℤ
+beamCells st cells = let start = st .groups .beam in let c = st .counts in
+    cond (reaches start c) (onPart (recordFrom start c) (λ part. beamed part (countFrom start c)) cells) cells
+
+-- what the open group closes to
+abbrev pub closingIn : Pae → List ℤ → Closing
+closingIn st cells = let start = st .groups .paren in let c = st .counts in
+    cond (leb (start .length) (openLength c)) (closing (timedCount (drop (recordFrom start c * noteSize) cells) (countFrom start c)) (countIn (st .groups .count))) nothing
+
+abbrev pub closedCells : Closing → ℕ → ℕ → List ℤ → List ℤ
+closedCells what from count cells = elim what [ nothing ↦ cells | fermata ↦ onPart from (λ part. fermataIn part count) cells | tuplet actual ↦ onPart from (λ part. walked (notatedWords (Tuplet actual (normalOf actual))) part count .0) cells | tooFew actual ↦ cells ]
+
+abbrev pub groupCells : Pae → List ℤ → List ℤ
+groupCells st cells = let start = st .groups .paren in
+    cond (start .noted) (closedCells (closingIn st cells) (recordFrom start (st .counts)) (countFrom start (st .counts)) cells) cells
+
+abbrev pub markingCells : Marking → Pae → List ℤ → List ℤ
+markingCells marking st cells = let c = st .counts in elim marking [ m.BeamOpen ↦ cells | m.BeamClose ↦ beamCells st cells | m.GroupOpen ↦ cells | m.GroupCount ↦ cells | m.GroupClose ↦ groupCells st cells | m.Tie ↦ cond (endsOf c cells) (tiedCells c cells) cells | m.Trill ↦ cond (hasContent c) (trilledCells c cells) cells ]
+
+-- ---- a token
+
+-- length: the value taken; place: the token's; held: the figure's cells
+unfoldable pub notesNext : Token → Pae → Bool → Length → Table → ℕ → List ℤ → List ℤ → List ℤ
+notesNext token st joined length table place held cells = elim token [
+  | t.Clef ↦ cells
+  | t.Key ↦ cells
+  | t.Meter ↦ cells
+  | t.Octave octave ↦ cells
+  | t.Duration ↦ cells
+  | t.Accidental alter ↦ cells
+  | t.Letter step ↦ letterCells step st joined length table place cells
+  | t.Chord ↦ cells
+  | t.Rest ↦ restCells (st .counts) length place cells
+  | t.Barline barline ↦ cells
+  | t.Grace slashed ↦ cells
+  | t.GraceGroup begins ↦ cells
+  | t.Figure figure ↦ figureCells figure st place cells held
+  | t.Marking marking ↦ markingCells marking st cells
+  | t.Blank ↦ cells
+  | t.Colon ↦ cells
+  | t.MeasureRest ↦ cells
+  | t.Unknown ↦ cells
+]
+
+unfoldable pub barsNext : Token → Pae → List ℤ → List ℤ
+barsNext token st cells = elim token [
+  | t.Clef ↦ cells
+  | t.Key ↦ cells
+  | t.Meter ↦ cells
+  | t.Octave octave ↦ cells
+  | t.Duration ↦ cells
+  | t.Accidental alter ↦ cells
+  | t.Letter step ↦ cells
+  | t.Chord ↦ cells
+  | t.Rest ↦ cells
+  | t.Barline barline ↦ storedBars (st .counts) (st .attributes) (barline .right) cells
+  | t.Grace slashed ↦ cells
+  | t.GraceGroup begins ↦ cells
+  | t.Figure figure ↦ cells
+  | t.Marking marking ↦ cells
+  | t.Blank ↦ cells
+  | t.Colon ↦ cells
+  | t.MeasureRest ↦ cells
+  | t.Unknown ↦ cells
+]
+
+-- held: the figure's cells
+unfoldable pub heldNext : Token → Pae → List ℤ → List ℤ → List ℤ
+heldNext token st cells held = elim token [
+  | t.Clef ↦ held
+  | t.Key ↦ held
+  | t.Meter ↦ held
+  | t.Octave octave ↦ held
+  | t.Duration ↦ held
+  | t.Accidental alter ↦ held
+  | t.Letter step ↦ held
+  | t.Chord ↦ held
+  | t.Rest ↦ held
+  | t.Barline barline ↦ held
+  | t.Grace slashed ↦ held
+  | t.GraceGroup begins ↦ held
+  | t.Figure figure ↦ figureHeld figure st cells held
+  | t.Marking marking ↦ held
+  | t.Blank ↦ held
+  | t.Colon ↦ held
+  | t.MeasureRest ↦ held
+  | t.Unknown ↦ held
+]

@@ -1,0 +1,121 @@
+-- What the steps ask of the reading: counts within the lent cells, and room where records are added. Assumes nothing.
+use Prim.Native.Nat.{ℕ, _+_, _-_, _*_, _<_, _≤_}
+use mathlib.Core.Path.{_≡_}
+use mathlib.Core.Bool.{Bool, true, false}
+use mathlib.Core.List.{List}
+use lib.IntN.{ℤ}
+use lib.ListN.{length, drop}
+use Rattle.rules.specs.Limits.{noteLimit, noteSize, barSize, pitchCapacity}
+use Rattle.rules.specs.Rules.{Closing, nothing, fermata, tuplet, tooFew}
+use Rattle.records.specs.Cells.{wordLimit, recordAt}
+use Rattle.records.specs.Notes.{pitchCountAt, HasRoom}
+use Rattle.records.specs.Groups.{lastTimed}
+use Rattle.values.specs.declared.pae.Counts.{Counts}
+use Rattle.values.specs.declared.pae.Pae.{Pae}
+use Rattle.decode.specs.declared.Figure.{Figure}
+use Rattle.decode.specs.declared.Figure.the-variants as f
+use Rattle.decode.specs.declared.Marking.{Marking}
+use Rattle.decode.specs.declared.Marking.the-variants as m
+use Rattle.decode.specs.declared.Token.{Token}
+use Rattle.decode.specs.declared.Token.the-variants as t
+use Rattle.steps.specs.State.{hasContent, repeatedCount}
+use Rattle.steps.specs.Notes.{lastField}
+use Rattle.reading.specs.Cells.{reaches, recordFrom, countFrom, closingIn}
+
+-- the records stand in the cells, and there are few bars
+pub record Within (c : Counts) (cells : List ℤ) : Type 0 where
+  pub last : c .last ≤ c .first
+  pub first : c .first ≤ c .notes
+  pub notes : c .notes * noteSize ≤ length cells
+  pub capped : c .notes ≤ noteLimit
+  pub bars : c .bars + 1 < wordLimit
+
+-- there is room for n records more
+abbrev pub HasPlace : ℕ → Counts → List ℤ → Type 0
+HasPlace n c cells = (c .notes * noteSize + n * noteSize ≤ length cells) × (c .notes + n ≤ noteLimit)
+
+-- the records stand in the cells, and n more find a place
+pub record PlaceReady (n : ℕ) (c : Counts) (cells : List ℤ) : Type 0 where
+  pub within : Within c cells
+  pub place : HasPlace n c cells
+
+-- a letter that joins finds a record with room for a pitch, one that opens a place
+pub record NoteReady (st : Pae) (joined : Bool) (cells : List ℤ) : Type 0 where
+  pub within : Within (st .counts) cells
+  pub octave : st .voice .octave < 10
+  pub joins : joined ≡ true → (0 < st .counts .notes) × (lastField pitchCountAt (st .counts) cells < pitchCapacity)
+  pub opens : joined ≡ false → HasPlace 1 (st .counts) cells
+
+-- a closing `!` finds room in the figure
+pub record FigureReady (st : Pae) (cells held : List ℤ) : Type 0 where
+  pub within : Within (st .counts) cells
+  pub room : reaches (st .groups .figure) (st .counts) ≡ true → countFrom (st .groups .figure) (st .counts) * noteSize ≤ length held
+
+-- what a closing asks of `count` records from record `from` on: a fermata finds room for a mark, a tuplet has three or more
+abbrev pub ClosingReady : Closing → ℕ → ℕ → List ℤ → Type 0
+ClosingReady nothing from count cells = Unit {0}
+ClosingReady fermata from count cells = (0 < count) × (let part = drop (from * noteSize) cells in HasRoom (recordAt noteSize part (lastTimed part count)))
+ClosingReady (tuplet actual) from count cells = 3 ≤ actual
+ClosingReady (tooFew actual) from count cells = Unit {0}
+
+-- a group that closes to a fermata finds room for a mark
+pub record GroupReady (st : Pae) (cells : List ℤ) : Type 0 where
+  pub within : Within (st .counts) cells
+  pub count : st .groups .count ≤ 256
+  pub room : st .groups .paren .noted ≡ true → closingIn st cells ≡ fermata
+      → let part = drop (recordFrom (st .groups .paren) (st .counts) * noteSize) cells in HasRoom (recordAt noteSize part (lastTimed part (countFrom (st .groups .paren) (st .counts))))
+
+-- a trill finds room for a mark
+pub record TrillReady (c : Counts) (cells : List ℤ) : Type 0 where
+  pub within : Within c cells
+  pub room : hasContent c ≡ true → HasRoom (recordAt noteSize cells (c .notes - 1))
+
+-- a bar to store finds a place
+abbrev pub BarReady : Counts → List ℤ → Type 0
+BarReady c bars = (hasContent c ≡ true → c .bars * barSize + barSize ≤ length bars) × (c .notes < wordLimit)
+
+-- ---- a token
+
+-- what `!`, `f` and `i` ask; held: the figure's cells
+abbrev pub FigureAsked : Figure → Pae → List ℤ → List ℤ → Type 0
+FigureAsked f.Mark st cells held = FigureReady st cells held
+FigureAsked f.Repeat st cells held = PlaceReady (st .figure) (st .counts) cells × (st .figure * noteSize ≤ length held)
+FigureAsked f.Bar st cells held = PlaceReady (repeatedCount (st .counts)) (st .counts) cells
+
+abbrev pub MarkingAsked : Marking → Pae → List ℤ → Type 0
+MarkingAsked m.BeamOpen st cells = Unit {0}
+MarkingAsked m.BeamClose st cells = Unit {0}
+MarkingAsked m.GroupOpen st cells = Unit {0}
+MarkingAsked m.GroupCount st cells = Unit {0}
+MarkingAsked m.GroupClose st cells = GroupReady st cells
+MarkingAsked m.Tie st cells = Unit {0}
+MarkingAsked m.Trill st cells = TrillReady (st .counts) cells
+
+abbrev pub Asked : Token → Pae → Bool → List ℤ → List ℤ → List ℤ → Type 0
+Asked t.Clef st joined cells bars held = Unit {0}
+Asked t.Key st joined cells bars held = Unit {0}
+Asked t.Meter st joined cells bars held = Unit {0}
+Asked (t.Octave octave) st joined cells bars held = Unit {0}
+Asked t.Duration st joined cells bars held = Unit {0}
+Asked (t.Accidental alter) st joined cells bars held = Unit {0}
+Asked (t.Letter step) st joined cells bars held = (step < 7) × NoteReady st joined cells
+Asked t.Chord st joined cells bars held = Unit {0}
+Asked t.Rest st joined cells bars held = PlaceReady 1 (st .counts) cells
+Asked (t.Barline barline) st joined cells bars held = BarReady (st .counts) bars
+Asked (t.Grace slashed) st joined cells bars held = Unit {0}
+Asked (t.GraceGroup begins) st joined cells bars held = Unit {0}
+Asked (t.Figure figure) st joined cells bars held = FigureAsked figure st cells held
+Asked (t.Marking marking) st joined cells bars held = MarkingAsked marking st cells
+Asked t.Blank st joined cells bars held = Unit {0}
+Asked t.Colon st joined cells bars held = Unit {0}
+Asked t.MeasureRest st joined cells bars held = Unit {0}
+Asked t.Unknown st joined cells bars held = Unit {0}
+
+-- what a token that can be taken asks
+pub record Ready (token : Token) (st : Pae) (joined : Bool) (cells bars held : List ℤ) : Type 0 where
+  pub within : Within (st .counts) cells
+  pub asked : Asked token st joined cells bars held
+
+-- a letter's step is one of seven
+abbrev pub StepLow : Token → Type 0
+StepLow token = (step : ℕ) → token ≡ t.Letter step → step < 7
