@@ -6,12 +6,11 @@ use lib.IntN.{ℤ, pos}
 use lib.ListN.{getD, take, drop}
 use lib.Dec.{leb}
 use Rattle.rules.specs.Limits.{noteSize}
-use Rattle.rules.specs.Values.{Length, normalOf}
-use Rattle.rules.specs.Rules.{Closing, nothing, fermata, tuplet, tooFew, closing}
+use Rattle.rules.specs.Values.{Length}
+use Rattle.rules.specs.Rules.{Closing, nothing, closing}
 use Rattle.records.specs.Cells.{written}
 use Rattle.records.specs.Copies.{copies}
-use Rattle.records.specs.Groups.{timedCount, walked, notatedWords, beamed, fermataIn, onPart}
-use Rattle.records.specs.declared.group.Notation.the-variants.{Tuplet}
+use Rattle.records.specs.Groups.{timedCount, beamed, onPart}
 use Rattle.values.specs.declared.pae.Counts.{Counts}
 use Rattle.values.specs.declared.pae.Start.{Start}
 use Rattle.values.specs.declared.pae.Pae.{Pae}
@@ -24,7 +23,7 @@ use Rattle.decode.specs.declared.Token.the-variants as t
 use Rattle.steps.specs.State.{hasContent, openLength, repeatedCount}
 use Rattle.steps.specs.Accidentals.{Table, entry, alterOf}
 use Rattle.steps.specs.Bars.{storedBars}
-use Rattle.steps.specs.Notes.{endsOf, joinedCells, openedCells, restCells, tiedCells, trilledCells}
+use Rattle.steps.specs.Notes.{endsOf, joinedCells, openedCells, restCells, tiedCells, trilledCells, closedCells}
 use Rattle.steps.specs.Relation.{countIn}
 
 -- ---- parts of the open bar
@@ -78,9 +77,6 @@ beamCells st cells = let start = st .groups .beam in let c = st .counts in
 abbrev pub closingIn : Pae → List ℤ → Closing
 closingIn st cells = let start = st .groups .paren in let c = st .counts in
     cond (leb (start .length) (openLength c)) (closing (timedCount (drop (recordFrom start c * noteSize) cells) (countFrom start c)) (countIn (st .groups .count))) nothing
-
-abbrev pub closedCells : Closing → ℕ → ℕ → List ℤ → List ℤ
-closedCells what from count cells = elim what [ nothing ↦ cells | fermata ↦ onPart from (λ part. fermataIn part count) cells | tuplet actual ↦ onPart from (λ part. walked (notatedWords (Tuplet actual (normalOf actual))) part count .0) cells | tooFew actual ↦ cells ]
 
 abbrev pub groupCells : Pae → List ℤ → List ℤ
 groupCells st cells = let start = st .groups .paren in

@@ -1,4 +1,4 @@
--- What letters, rests and marks make of the lent notes. Assumes nothing.
+-- What letters, rests, marks and groups make of the lent notes. Assumes nothing.
 use Prim.Native.Nat.{ℕ, _+_, _-_, _*_}
 use mathlib.Core.Bool.{Bool, true, false, cond, not, _&&_, _||_}
 use mathlib.Core.Option.{Option, none, some}
@@ -7,12 +7,14 @@ use lib.IntN.{ℤ, pos}
 use lib.ListN.{getD}
 use lib.Dec.{eqb}
 use Rattle.rules.specs.Limits.{noteSize}
-use Rattle.rules.specs.Values.{Length}
+use Rattle.rules.specs.Values.{Length, normalOf}
 use Rattle.rules.specs.Records.{Pitch, Heading}
-use Rattle.rules.specs.Rules.{kindOf, lengthOf, heading}
+use Rattle.rules.specs.Rules.{kindOf, lengthOf, heading, Closing, nothing, fermata, tuplet, tooFew}
 use Rattle.rules.specs.Words.{noteWords}
 use Rattle.records.specs.Cells.{natural, withRecord, changed}
 use Rattle.records.specs.Notes.{opened, kindAt, pitched, tieStarted, marked}
+use Rattle.records.specs.Groups.{notatedWords, walked, fermataIn, onPart}
+use Rattle.records.specs.declared.group.Notation.the-variants.{Tuplet}
 use Rattle.values.specs.declared.pae.Voice.{Voice}
 use Rattle.values.specs.declared.pae.Counts.{Counts}
 use Rattle.steps.specs.State.{hasContent}
@@ -58,3 +60,7 @@ tiedCells c cells = changed noteSize tieStarted cells (c .notes - 1)
 
 abbrev pub trilledCells : Counts → List ℤ → List ℤ
 trilledCells c cells = changed noteSize (marked true) cells (c .notes - 1)
+
+-- what `)` makes of `count` records from record `from` on
+abbrev pub closedCells : Closing → ℕ → ℕ → List ℤ → List ℤ
+closedCells what from count cells = elim what [ nothing ↦ cells | fermata ↦ onPart from (λ part. fermataIn part count) cells | tuplet actual ↦ onPart from (λ part. walked (notatedWords (Tuplet actual (normalOf actual))) part count .0) cells | tooFew actual ↦ cells ]

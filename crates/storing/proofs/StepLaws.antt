@@ -11,7 +11,7 @@ use lib.Dec.{leb}
 use borrow.Author.Tests.{leb-true, leb-false}
 use Rattle.text.proofs.BoolLaws.{both}
 use Rattle.rules.specs.Limits.{noteSize, noteLimit, pitchCapacity}
-use Rattle.rules.specs.Values.{Length, normalOf}
+use Rattle.rules.specs.Values.{Length}
 use Rattle.rules.specs.Tokens.{Token, Item, letter, rest, barline, figure, figureMark, figureRepeat, barRepeat, marking, beamOpen, beamClose, groupOpen, groupClose, groupCount, tie, trill, letterIn, isRest, isBarline, figureIn, markingIn}
 use Rattle.rules.specs.Records.{Note, given, notesOf}
 use Rattle.rules.specs.Rules.{State, Group, Closing, nothing, fermata, tuplet, tooFew, closing, closingOf, close, pitchOf, kindOf, lengthOf, heading, plain, openedNote, restNote, nextValue, alterOf, endsInNote, joins, copied, repeatedBar, notesFrom, groupClosed, beamClosed, notationsNext, renotated, step}
@@ -22,20 +22,15 @@ use Rattle.values.specs.declared.pae.Groups.{Groups}
 use Rattle.records.specs.Cells.{written}
 use Rattle.records.specs.Copies.{copies}
 use Rattle.records.specs.Notes.{pitchCountAt}
-use Rattle.records.specs.Groups.{timedCount, notatedWords, walked, beamed, fermataIn, onPart}
-use Rattle.records.specs.declared.group.Notation.the-variants.{Tuplet}
+use Rattle.records.specs.Groups.{timedCount, beamed, onPart}
 use Rattle.records.proofs.CellLaws.{padded-none}
 use Rattle.steps.specs.State.{hasContent, openLength, counted, barCounted, repeatedCount, figureClosed}
-use Rattle.steps.specs.Notes.{lastField, endsOf, joinsOf, pitchIn, joinedCells, openedCells, restCells, tiedCells, trilledCells}
+use Rattle.steps.specs.Notes.{lastField, endsOf, joinsOf, pitchIn, joinedCells, openedCells, restCells, tiedCells, trilledCells, closedCells}
 use Rattle.steps.specs.Relation.{countIn, Voiced, Grouped, Stored, Figured}
 use Rattle.storing.proofs.ReadLaws.{length-open, content, ends}
 use Rattle.storing.proofs.NotesLaws.{opened, rested, joined, renotated-same, kept, untouched, tied, trilled}
 use Rattle.storing.proofs.FigureLaws.{figure-closed, figure-repeated, bar-repeated}
 use Rattle.storing.proofs.GroupsOpenLaws.{beam-closed, beam-beyond, closing-read, nothing-closed, few-closed, fermata-closed, tuplet-closed}
-
--- what `)` makes of `count` records from record `from` on
-abbrev pub closedCells : Closing → ℕ → ℕ → List ℤ → List ℤ
-closedCells what from count cells = elim what [ nothing ↦ cells | fermata ↦ onPart from (λ part. fermataIn part count) cells | tuplet actual ↦ onPart from (λ part. walked (notatedWords (Tuplet actual (normalOf actual))) part count .0) cells | tooFew actual ↦ cells ]
 
 -- ---- the start and the end of a reading
 

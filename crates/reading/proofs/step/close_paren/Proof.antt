@@ -6,7 +6,8 @@ use lib.Dec.{leb}
 use borrow.Author.Tests.{not-true, not-false, lt-leb, le-leb}
 use borrow.Author.Needs.{needs}
 use Rattle.steps.specs.State.{openLength}
-use Rattle.reading.specs.Cells.{closedCells, recordFrom}
+use Rattle.steps.specs.Notes.{closedCells}
+use Rattle.reading.specs.Cells.{recordFrom}
 use Rattle.reading.proofs.ClosingLaws.{group-ready}
 use Rattle.reading.proofs.step.close_paren.Statement.{statement}
 use Rattle.reading.proofs.step.close_paren.Tie as tie
