@@ -1,6 +1,6 @@
 -- What is found and stored is what the rules diagnose. Assumes nothing.
 use Prim.Native.Nat.{ℕ, _*_, _≤_}
-use mathlib.Core.Path.{_≡_, ap, _∙_}
+use mathlib.Core.Path.{ap, _∙_}
 use mathlib.Core.List.{List, [], _∷_, _++_, map}
 use lib.IntN.{ℤ}
 use Rattle.rules.specs.Limits.{diagnosticLimit, diagnosticSize}
@@ -21,8 +21,3 @@ module _ {size : ℕ} (room : diagnosticLimit * diagnosticSize ≤ size) where
         counted = ap countAfter (v .counted) ∙ diagnostic-count d (new ++ ds);
         written = (λ i. diagnosed (v .written i) (v .counted i) (diagnosticWords d)) ∙ diagnostic-stored d (new ++ ds) size room;
       }
-
-  -- what `store_found` leaves, the words being those of what is found
-  pub found-stored : {words : List (List ℤ)} (new : List Diagnostic) {ds : List Diagnostic} {count next : ℕ} {before after : List ℤ} → words ≡ map diagnosticWords new
-      → (next ≡ countAfterAll count words) × (after ≡ cellsAfterAll before count words) → Diagnosed size ds count before → Diagnosed size (new ++ ds) next after
-  found-stored new e g w = rw (g .0, g .1, e) (all-stored new w)

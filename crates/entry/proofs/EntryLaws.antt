@@ -45,9 +45,6 @@ module _ (text : List ℕ) where
     pub text-within : length text ≤ textLimit
     text-within = ltb-false textLimit (length text) (passes .0)
 
-    pub cells-lent : diagnosticLimit ≤ cells
-    cells-lent = ltb-false cells diagnosticLimit (passes .1)
-
   -- the data that is read
   pub data-read : {p : Part} → fieldsOf text .dataValue ≡ some p → dataOf text ≡ p
   data-read e = ap (λ (o : Option Part). Option·getD o (record { start = 0; bytes = [] })) e

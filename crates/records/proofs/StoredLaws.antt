@@ -9,10 +9,10 @@ use Rattle.rules.specs.Limits.{noteSize}
 use Rattle.rules.specs.Records.{Note, Bar, notesOf}
 use Rattle.rules.specs.Rules.{notesFrom, copied, timedIn}
 use Rattle.rules.specs.Words.{cells, zeros, padded, Numbered, noteWords, inBar, numbered}
-use Rattle.records.specs.Cells.{written, recordAt, withRecord, changed}
+use Rattle.records.specs.Cells.{written, withRecord, changed}
 use Rattle.records.specs.Copies.{copies}
 use Rattle.records.specs.Groups.{timedCount, onPart}
-use Rattle.records.proofs.CellLaws.{part-read, part-words, record-read, word-read, padded-added, padded-changed, padded-extended, padded-part}
+use Rattle.records.proofs.CellLaws.{part-read, part-words, word-read, padded-added, padded-changed, padded-extended, padded-part}
 use Rattle.records.proofs.NoteLaws.{length-note}
 use Rattle.records.proofs.CopyLaws.{copies-notes}
 use Rattle.records.proofs.GroupLaws.{wordsIn, count-read}
@@ -61,9 +61,6 @@ module _ (n : ℕ) (ns : List Note) (bars : List Bar) where
   pub last-changed : (x : Note) (f : List ℤ → List ℤ) (y : Note) → f (wordsIn (suc (length bars)) x) ≡ wordsIn (suc (length bars)) y
       → changed noteSize f (notesIn n (x ∷ ns) bars) (countIn ns bars) ≡ notesIn n (y ∷ ns) bars
   last-changed x f y e = rw (← length-stored ns bars) (padded-changed noteWords noteSize length-note n [] (record { bar = suc (length bars); note = x }) (storedIn ns bars) f (record { bar = suc (length bars); note = y }) e)
-
-  pub last-record : (x : Note) → recordAt noteSize (notesIn n (x ∷ ns) bars) (countIn ns bars) ≡ wordsIn (suc (length bars)) x
-  last-record x = rw (← length-stored ns bars) (record-read noteWords noteSize length-note [] (record { bar = suc (length bars); note = x }) (storedIn ns bars) (zeros (n - length (cells noteWords (storedIn (x ∷ ns) bars)))))
 
   pub last-word : (x : Note) (k : ℕ) → k < noteSize → getD (notesIn n (x ∷ ns) bars) (countIn ns bars * noteSize + k) (pos 0) ≡ getD (wordsIn (suc (length bars)) x) k (pos 0)
   last-word x k h = rw (← length-stored ns bars) (word-read noteWords noteSize length-note [] (record { bar = suc (length bars); note = x }) (storedIn ns bars) (zeros (n - length (cells noteWords (storedIn (x ∷ ns) bars)))) k h)

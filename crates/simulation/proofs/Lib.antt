@@ -5,5 +5,4 @@ pub mod VoiceLaws
 pub mod AttributeLaws
 pub mod GroupsLaws
 pub mod RhythmLaws
-pub mod DiagnosticLaws
 pub mod CountLaws

@@ -1,25 +1,22 @@
 -- What the program reads in its counts and in the lent notes is what the rules read in the open bar (01, 'The lent records'). Assumes nothing.
 use Prim.Native.Nat.{ℕ, suc, _+_, _-_, _<_, _≤_}
 use native.Mathlib.Omega.{arith}
-use mathlib.Core.Path.{_≡_, sym, _∙_}
-use mathlib.Core.Bool.{true, false, not, _&&_, false≢true}
+use mathlib.Core.Path.{_≡_}
+use mathlib.Core.Bool.{not}
 use mathlib.Core.List.{List, [], _∷_}
 use lib.IntN.{ℤ}
 use lib.ListN.{length, length-append, length-replicate}
-use lib.Dec.{leb}
-use borrow.Author.Tests.{lt-ltb, le-ltb, leb-false}
-use Rattle.rules.specs.Limits.{noteSize, pitchCapacity, markCapacity}
+use borrow.Author.Tests.{lt-ltb, le-ltb}
+use Rattle.rules.specs.Limits.{noteSize}
 use Rattle.rules.specs.Records.{Note, Bar, isEmpty, notesOf}
 use Rattle.rules.specs.Rules.{endsInNote}
-use Rattle.rules.specs.Refusals.{isFull, isMarkedFull}
-use Rattle.rules.specs.Words.{noteWords, marksWord}
+use Rattle.rules.specs.Words.{noteWords}
 use Rattle.values.specs.declared.pae.Counts.{Counts}
-use Rattle.records.specs.Notes.{kindAt, markCountAt, marksAt, pitchCountAt, markLimit, numberAt}
+use Rattle.records.specs.Notes.{kindAt, pitchCountAt, numberAt}
 use Rattle.records.proofs.CellLaws.{length-cells}
 use Rattle.records.proofs.NoteLaws.{length-note}
 use Rattle.records.proofs.GroupLaws.{wordsIn}
 use Rattle.records.proofs.StoredLaws.{length-stored, last-word}
-use Rattle.records.proofs.MarkingLaws.{has-room}
 use Rattle.steps.specs.State.{hasContent, openLength}
 use Rattle.steps.specs.Notes.{lastField, endsOf}
 use Rattle.steps.specs.Relation.{lastFirst, recordsIn, Stored}
@@ -64,35 +61,7 @@ module _ {size : ℕ} {x : Note} {o : List Note} {bs : List Bar} {c : Counts} {n
   pub last-pitches : lastField pitchCountAt c notes ≡ length (x .pitches)
   last-pitches = last-field pitchCountAt (omega arith)
 
-  pub last-mark-count : lastField markCountAt c notes ≡ length (x .notations .marks)
-  last-mark-count = last-field markCountAt (omega arith)
-
-  pub last-marks : lastField marksAt c notes ≡ marksWord (x .notations .marks)
-  last-marks = last-field marksAt (omega arith)
-
 -- there is a last record and it is no rest
 pub ends : {size : ℕ} {bs : List Bar} {c : Counts} {notes : List ℤ} (o : List Note) → Stored size o bs c notes → endsOf c notes ≡ endsInNote o
 ends [] r = rw (content [] r)
 ends (x ∷ o) r = rw (content (x ∷ o) r, last-kind r)
-
--- ---- refusals 9 and 10 at the last record
-
-module _ {size : ℕ} {bs : List Bar} {c : Counts} {notes : List ℤ} where
-  -- 'the note has 8 pitches'
-  pub full : (o : List Note) → Stored size o bs c notes → hasContent c && leb pitchCapacity (lastField pitchCountAt c notes) ≡ isFull o
-  full [] r = rw (content [] r)
-  full (x ∷ o) r = rw (content (x ∷ o) r, last-pitches r)
-
-  -- 'the note has 8 marks'
-  pub marked-full : (o : List Note) → Stored size o bs c notes → hasContent c && leb markCapacity (lastField markCountAt c notes) ≡ isMarkedFull o
-  marked-full [] r = rw (content [] r)
-  marked-full (x ∷ o) r = rw (content (x ∷ o) r, last-mark-count r)
-
-  -- room where no refusal is
-  pub pitch-room : (o : List Note) → Stored size o bs c notes → endsInNote o ≡ true → isFull o ≡ false → lastField pitchCountAt c notes < pitchCapacity
-  pitch-room [] r e h = absurd (false≢true e)
-  pitch-room (x ∷ o) r e h = rw (last-pitches r) (leb-false pitchCapacity (length (x .pitches)) h)
-
-  pub mark-room : (o : List Note) → Stored size o bs c notes → hasContent c ≡ true → isMarkedFull o ≡ false → (lastField markCountAt c notes < markCapacity) × (lastField marksAt c notes < markLimit)
-  mark-room [] r e h = absurd (false≢true (sym (content [] r) ∙ e))
-  mark-room (x ∷ o) r e h = rw (last-mark-count r, last-marks r) (has-room (suc (length bs)) x h)

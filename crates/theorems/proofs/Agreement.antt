@@ -21,10 +21,6 @@ use Rattle.theorems.proofs.FieldByField.{joins-agrees, pitch-agrees, he
 
 -- ---- places
 
-ordered-tail : (l e : List Item) → Ordered (l ++ e) → Ordered e
-ordered-tail [] e h = h
-ordered-tail (y ∷ l) e h = ordered-tail l e (h .1)
-
 newest-above : (l : List Item) (x : Item) (e : List Item) → Ordered (l ++ x ∷ e) → x .place ≤ latestPlace (l ++ x ∷ e)
 newest-above [] x e h = omega arith
 newest-above (y ∷ l) x e h = let i : x .place ≤ latestPlace (l ++ x ∷ e) = newest-above l x e (h .1) in omega (arith, h .0)
