@@ -22,6 +22,7 @@ use steps::state::bar_counted;
 use values::pae::Pae;
 
 // The number of the refusal, 0 where the text is read, with its place; how many notes, bars and diagnostics are stored.
+#[repr(C)]
 pub struct Reading {
     pub number: u32,
     pub place: u32,
@@ -123,7 +124,7 @@ fn read_fielded(
     finish(bars, figure, st)
 }
 
-// Reads a text into lent words, six scratch words a diagnostic; so many diagnostic cells are lent.
+// Reads a text into lent words, six cleared scratch words a diagnostic; so many diagnostic cells are lent.
 pub fn read(
     text: &[u8],
     notes: &mut [i32],
@@ -132,12 +133,11 @@ pub fn read(
     scratch: &mut [i32],
     cells: usize,
 ) -> Reading
-    requires { ⌜ diagnosticLimit * diagnosticSize ≤ length (now scratch) ⌝ }
+    requires { ⌜ (diagnosticLimit * diagnosticSize ≤ length (now scratch)) × (now scratch ≡ zeros (length (now scratch))) ⌝ }
     ensures { λ r. ⌜ Promised (now (text .entry)) (lentWords (now (notes .entry)) (now (bars .entry)) (now (figure .entry)) cells) (length (now (scratch .entry))) r (now (notes .exit)) (now (bars .exit)) (now (figure .exit)) (now (scratch .exit)) ⌝ }
 {
     clear(notes);
     clear(bars);
-    clear(scratch);
     let stop = entry_check(text, cells);
     if stop != 0 {
         return refuse(notes, bars, figure, scratch, stop, 0);

@@ -1,0 +1,5 @@
+pub mod Again
+pub mod Lists
+pub mod Local
+pub mod Walk
+pub mod PromiseLaws

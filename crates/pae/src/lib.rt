@@ -1,0 +1,104 @@
+// The public surface: reads a text into lent records and a lent list of diagnostics.
+ghost use mathlib.Core.Path.{_≡_};
+ghost use Prim.Native.Nat.{_+_, _*_, _≤_};
+ghost use lib.ListN.{length};
+ghost use Rattle.rules.specs.Limits.{diagnosticSize};
+ghost use Rattle.reading.specs.Answer.{lentWords};
+ghost use Rattle.pae.specs.List.{blank, blanks, stored, recordAt, published};
+ghost use Rattle.pae.specs.Promise.{Promise};
+use reading::read::Reading;
+use reading::read::read;
+use records::cells::DIAGNOSTIC;
+use records::diagnostic::DIAGNOSTICS;
+
+// Number d1 to d19; place kind and place; value kind, start and end.
+#[repr(C)]
+pub struct Diagnostic {
+    pub number: i32,
+    pub place_kind: i32,
+    pub place: i32,
+    pub value_kind: i32,
+    pub start: i32,
+    pub end: i32,
+}
+
+// A cell that holds no diagnostic.
+fn empty() -> Diagnostic
+    ensures { λ r. ⌜ r ≡ blank ⌝ }
+{
+    Diagnostic {
+        number: 0,
+        place_kind: 0,
+        place: 0,
+        value_kind: 0,
+        start: 0,
+        end: 0,
+    }
+}
+
+// Stores a diagnostic at the count, where there is a cell.
+pub fn store(list: &mut [Diagnostic], count: usize, d: Diagnostic)
+    ensures { λ _. ⌜ now (list .exit) ≡ stored (now (list .entry)) count d ⌝ }
+{
+    if count < list.len() {
+        list[count] = d;
+    }
+}
+
+// Clears all cells.
+pub fn clear(list: &mut [Diagnostic])
+    ensures { λ _. ⌜ now (list .exit) ≡ blanks (length (now (list .entry))) ⌝ }
+{
+    let blank = empty();
+    let mut i = 0;
+    while i < list.len() {
+        list[i] = blank;
+        i += 1;
+    }
+}
+
+// Record i of the scratch words.
+fn record_at(words: &[i32], i: usize) -> Diagnostic
+    requires { ⌜ i * diagnosticSize + diagnosticSize ≤ length (now words) ⌝ }
+    ensures { λ r. ⌜ r ≡ recordAt (now (words .entry)) i ⌝ }
+{
+    let k = i * DIAGNOSTIC;
+    Diagnostic {
+        number: words[k],
+        place_kind: words[k + 1],
+        place: words[k + 2],
+        value_kind: words[k + 3],
+        start: words[k + 4],
+        end: words[k + 5],
+    }
+}
+
+// Stores the first n records, one after the other, from the list's start.
+fn publish(words: &[i32], n: usize, list: &mut [Diagnostic])
+    requires { ⌜ n * diagnosticSize ≤ length (now words) ⌝ }
+    ensures { λ _. ⌜ now (list .exit) ≡ published (now (list .entry)) (now (words .entry)) n ⌝ }
+{
+    let mut i = 0;
+    while i < n {
+        store(list, i, record_at(words, i));
+        i += 1;
+    }
+}
+
+// Reads a text.
+#[no_mangle]
+pub extern "C" fn pae_read(
+    text: &[u8],
+    notes: &mut [i32],
+    bars: &mut [i32],
+    figure: &mut [i32],
+    diagnostics: &mut [Diagnostic],
+) -> Reading
+    ensures { λ r. ⌜ Promise (now (text .entry)) (lentWords (now (notes .entry)) (now (bars .entry)) (now (figure .entry)) (length (now (diagnostics .entry)))) r (now (notes .exit)) (now (bars .exit)) (now (figure .exit)) (now (diagnostics .exit)) ⌝ }
+{
+    let mut scratch = [0; DIAGNOSTICS * DIAGNOSTIC];
+    let r = read(text, notes, bars, figure, &mut scratch, diagnostics.len());
+    clear(diagnostics);
+    publish(&scratch, r.diagnostics as usize, diagnostics);
+    r
+}
