@@ -5,15 +5,10 @@ ghost use lib.ListN.{length};
 ghost use Rattle.rules.specs.Limits.{diagnosticLimit, diagnosticSize};
 ghost use Rattle.records.specs.Cells.{wordLimit};
 ghost use Rattle.records.specs.Groups.{closingOf};
-ghost use Rattle.values.specs.Rhythm.{keeping, lengthIn, quarterPattern, firstOf};
-ghost use Rattle.values.specs.Rhythm as rhythm;
-ghost use Rattle.steps.specs.Notes.{endsOf};
-ghost use Rattle.remarks.specs.Remarks.{valueFrom};
-ghost use Rattle.steps.specs.Steps.{stepped};
-ghost use Rattle.reading.specs.Cells.{notesNext, barsNext, heldNext};
+ghost use Rattle.values.specs.Rhythm.{keeping};
 ghost use Rattle.diagnose.specs.Found.{countAfterAll, cellsAfterAll};
-ghost use Rattle.reading.specs.Ready.{Within, Ready};
-ghost use Rattle.reading.specs.Rhythm.{takenNext, patternNext, cursorNext};
+ghost use Rattle.reading.specs.Ready.{Within};
+ghost use Rattle.reading.specs.Rhythm.{patternNext, cursorNext};
 ghost use Rattle.reading.specs.Data.{begun, Begins, DataRead};
 ghost use Rattle.reading.specs.Walk.{withDiagnostics, markingClosing, closingFor, remarked};
 use super::rhythm::next_value;
@@ -115,61 +110,6 @@ fn remark(
     store_found(scratch, st.diagnostics, found)
 }
 
-// The state with the pattern and its cursor.
-pub struct Walk {
-    pub st: Pae,
-    pub pattern: Pattern,
-    pub cursor: Cursor,
-}
-
-// A token that can be taken: the state, the pattern and the lent cells after it.
-fn turn(
-    token: Token,
-    walk: Walk,
-    joined: bool,
-    table: [[i8; 10]; 7],
-    kept: &mut [u8; KEPT],
-    notes: &mut [i32],
-    bars: &mut [i32],
-    figure: &mut [i32],
-    data: &[u8],
-    at: usize,
-    end: usize,
-) -> Walk
-    requires { ⌜ (at < end) × (end ≤ length (now «data»)) × (at + 1 < wordLimit) × Ready token (walk .st) joined (now notes) (now bars) (now figure) × rhythm.Ready (now «data») (walk .pattern) (walk .cursor) ⌝ }
-    ensures { λ r. ⌜ (r .st ≡ stepped token (valueFrom (now («data» .entry)) at end) joined (endsOf (walk .st .counts) (now (notes .entry))) (walk .st)) × (keeping (r .pattern) (now (kept .exit)) ≡ patternNext token (now («data» .entry)) at end (keeping (walk .pattern) (now (kept .entry)))) × (r .cursor ≡ cursorNext token (r .pattern) (takenNext token joined (walk .st .voice) (now («data» .entry)) (keeping (walk .pattern) (now (kept .entry))) (walk .cursor) .next)) × (now (notes .exit) ≡ notesNext token (walk .st) joined (lengthIn (takenNext token joined (walk .st .voice) (now («data» .entry)) (keeping (walk .pattern) (now (kept .entry))) (walk .cursor))) table (at + 1) (now (figure .entry)) (now (notes .entry))) × (now (bars .exit) ≡ barsNext token (walk .st) (now (bars .entry))) × (now (figure .exit) ≡ heldNext token (walk .st) (now (notes .entry)) (now (figure .entry))) ⌝ }
-{
-    let value = next_value(
-        token,
-        joined,
-        walk.st.voice,
-        walk.pattern,
-        walk.cursor,
-        kept,
-        data,
-    );
-    let st = step(
-        token,
-        walk.st,
-        joined,
-        value,
-        table,
-        notes,
-        bars,
-        figure,
-        data,
-        at,
-        end,
-    );
-    let pattern = pattern_step(token, walk.pattern, kept, data, at, end);
-    let cursor = cursor_step(token, pattern, value.next);
-    Walk {
-        st,
-        pattern,
-        cursor,
-    }
-}
-
 // How the walk ended: the number of the check that failed and its place, or 0, and the state.
 pub struct Outcome {
     pub number: u8,
@@ -177,28 +117,12 @@ pub struct Outcome {
     pub st: Pae,
 }
 
-// A fresh reading: octave 4, a quarter, these attributes.
-fn begin(attributes: Attributes, diagnostics: usize, kept: &mut [u8; KEPT]) -> Walk
-    ensures { λ r. ⌜ (r .st ≡ begun attributes diagnostics) × (keeping (r .pattern) (now (kept .exit)) ≡ quarterPattern (now (kept .entry))) × (r .cursor ≡ firstOf (r .pattern)) ⌝ }
+// A fresh reading: octave 4, these attributes, so many diagnostics.
+fn begin(attributes: Attributes, diagnostics: usize) -> Pae
+    ensures { λ r. ⌜ r ≡ begun attributes diagnostics ⌝ }
 {
-    let pattern = Pattern::new(kept);
-    let cursor = pattern.first();
     let fresh = Pae::new();
-    let st = with_diagnostics(with_attributes(fresh, attributes), diagnostics);
-    Walk {
-        st,
-        pattern,
-        cursor,
-    }
-}
-
-// So many diagnostics are stored.
-fn counted(mut walk: Walk, count: usize) -> Walk
-    ensures { λ r. ⌜ (r .st ≡ withDiagnostics count (walk .st)) × (r .pattern ≡ walk .pattern) × (r .cursor ≡ walk .cursor) ⌝ }
-{
-    let st = with_diagnostics(walk.st, count);
-    walk.st = st;
-    walk
+    with_diagnostics(with_attributes(fresh, attributes), diagnostics)
 }
 
 // Reads the data, which stands at offset `start` of the text, into cleared cells.
@@ -217,13 +141,14 @@ pub fn read_data(
     ensures { λ r. ⌜ DataRead (now («data» .entry)) start attributes diagnostics (now (scratch .entry)) (length (now (notes .entry))) (length (now (bars .entry))) room r (now (notes .exit)) (now (bars .exit)) (now (scratch .exit)) ⌝ }
 {
     let mut kept = [0u8; KEPT];
-    let mut walk = begin(attributes, diagnostics, &mut kept);
+    let mut pattern = Pattern::new(&mut kept);
+    let mut cursor = pattern.first();
+    let mut st = begin(attributes, diagnostics);
     let mut table = cleared();
     let mut at = 0;
     while at < data.len() {
         let end = token_end(data, at);
         let token = decode(data[at], end - at);
-        let st = walk.st;
         let joined = joins(st.voice, st.counts, notes);
         let stop = check(token, st, joined, notes, room);
         if stop != 0 {
@@ -235,12 +160,13 @@ pub fn read_data(
         }
         let count = remark(token, st, notes, scratch, data, at, end, start);
         let next_table = table_step(token, st, table);
-        let next = turn(
+        let value = next_value(token, joined, st.voice, pattern, cursor, &kept, data);
+        let next = step(
             token,
-            walk,
+            st,
             joined,
+            value,
             table,
-            &mut kept,
             notes,
             bars,
             figure,
@@ -248,12 +174,13 @@ pub fn read_data(
             at,
             end,
         );
-        let next_walk = counted(next, count);
-        walk = next_walk;
+        let next_pattern = pattern_step(token, pattern, &mut kept, data, at, end);
+        cursor = cursor_step(token, next_pattern, value.next);
+        pattern = next_pattern;
+        st = with_diagnostics(next, count);
         table = next_table;
         at = end;
     }
-    let st = walk.st;
     Outcome {
         number: 0,
         place: 0,

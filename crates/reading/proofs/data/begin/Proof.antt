@@ -8,12 +8,6 @@ use Rattle.reading.proofs.data.begin.Tie as tie
 new-requires : tie.Need-new-requires
 new-requires c κs = search needs
 
-first-requires : tie.Need-first-requires
-first-requires c κs = search needs
-
-new-requires-2 : tie.Need-new-requires-2
-new-requires-2 c κs = search needs
-
 with-attributes-requires : tie.Need-with-attributes-requires
 with-attributes-requires c κs = search needs
 
@@ -22,19 +16,9 @@ with-diagnostics-requires c κs = search needs
 
 returns : tie.Need-returns
 returns c =
-    let a = c .before .before .before .before .before .before .args in (
-      c .with-diagnostics .ensures ∙ ap (withDiagnostics (a .diagnostics)) (c .before .with-attributes .ensures ∙ ap (withAttributes (a .attributes)) (c .before .before .new2 .ensures)),
-      c .before .before .before .before .new .ensures,
-      c .before .before .before .first .ensures,
-    )
+    let a = c .before .before .before .args in
+    c .with-diagnostics .ensures ∙ ap (withDiagnostics (a .diagnostics)) (c .before .with-attributes .ensures ∙ ap (withAttributes (a .attributes)) (c .before .before .new .ensures))
 
 pub begin-spec : {M : Type 1} → statement M
 begin-spec =
-    tie.close
-    (tie.spec
-    new-requires
-    first-requires
-    new-requires-2
-    with-attributes-requires
-    with-diagnostics-requires
-    returns)
+    tie.close (tie.spec new-requires with-attributes-requires with-diagnostics-requires returns)

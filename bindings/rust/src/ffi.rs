@@ -1,0 +1,56 @@
+//! The proved reader's one function.
+
+use crate::words::DiagnosticCell;
+
+/// The answer: the refusal's number (0: accepted) and place, and the counts of stored records.
+#[repr(C)]
+pub struct Answer {
+    pub number: u32,
+    pub place: u32,
+    pub notes: u32,
+    pub bars: u32,
+    pub diagnostics: u32,
+}
+
+unsafe extern "C" {
+    fn pae_read(
+        text: *const u8,
+        text_len: usize,
+        notes: *mut i32,
+        notes_len: usize,
+        bars: *mut i32,
+        bars_len: usize,
+        figure: *mut i32,
+        figure_len: usize,
+        diagnostics: *mut DiagnosticCell,
+        diagnostics_len: usize,
+    ) -> Answer;
+}
+
+/// Reads `text` into the lent slices.
+pub fn call(
+    text: &[u8],
+    notes: &mut [i32],
+    bars: &mut [i32],
+    figure: &mut [i32],
+    diagnostics: &mut [DiagnosticCell],
+) -> Answer {
+    // SAFETY: each pointer and length are those of one slice, so they are non-null and aligned,
+    // stand for that many initialised values, and no writable one overlaps another. For any text
+    // and any lengths the function is proved to read and write only within these slices; it keeps
+    // no pointer, and every value of an `i32` is a value that it may write.
+    unsafe {
+        pae_read(
+            text.as_ptr(),
+            text.len(),
+            notes.as_mut_ptr(),
+            notes.len(),
+            bars.as_mut_ptr(),
+            bars.len(),
+            figure.as_mut_ptr(),
+            figure.len(),
+            diagnostics.as_mut_ptr(),
+            diagnostics.len(),
+        )
+    }
+}

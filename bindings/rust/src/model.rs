@@ -1,0 +1,354 @@
+//! Notes and bars, named as in acorde.
+
+use crate::limits::{MAX_MARKS, MAX_PITCHES};
+use crate::list::List;
+use crate::word::{UnknownWord, count, number, unless_zero, words_enum};
+use crate::words::{BarWords, NoteWords, PITCH_WORDS, bar, note, pitch};
+use std::fmt;
+
+words_enum! {
+    /// What a note record is.
+    NoteKind, "kind of note" {
+        /// A note with its own time.
+        Note = 0,
+        /// A rest.
+        Rest = 1,
+        /// A grace note (`q`, or in a group `qq` to `r`).
+        Grace = 2,
+        /// A slashed grace note (`g`).
+        SlashedGrace = 3,
+    }
+}
+
+words_enum! {
+    /// The written length, without dots.
+    Duration, "duration" {
+        /// Four whole notes.
+        Longa = 0,
+        /// Two whole notes.
+        Breve = 1,
+        /// A whole note.
+        Whole = 2,
+        /// A half.
+        Half = 3,
+        /// A quarter.
+        Quarter = 4,
+        /// An eighth.
+        Eighth = 5,
+        /// A 16th.
+        Sixteenth = 6,
+        /// A 32nd.
+        ThirtySecond = 7,
+        /// A 64th.
+        SixtyFourth = 8,
+        /// A 128th.
+        HundredTwentyEighth = 9,
+    }
+}
+
+impl Duration {
+    /// The length as a fraction of a whole note.
+    pub fn as_fraction(self) -> (u32, u32) {
+        match self {
+            Self::Longa => (4, 1),
+            Self::Breve => (2, 1),
+            Self::Whole => (1, 1),
+            Self::Half => (1, 2),
+            Self::Quarter => (1, 4),
+            Self::Eighth => (1, 8),
+            Self::Sixteenth => (1, 16),
+            Self::ThirtySecond => (1, 32),
+            Self::SixtyFourth => (1, 64),
+            Self::HundredTwentyEighth => (1, 128),
+        }
+    }
+}
+
+words_enum! {
+    /// The ties at a note.
+    Ties, "tie" {
+        /// None.
+        None = 0,
+        /// One starts here.
+        Start = 1,
+        /// One ends here.
+        End = 2,
+        /// One ends here and another starts.
+        Both = 3,
+    }
+}
+
+words_enum! {
+    /// A note's part in a beam.
+    BeamState, "beam" {
+        /// None.
+        None = 0,
+        /// The beam's first note.
+        Begin = 1,
+        /// A note between the first and the last.
+        Continue = 2,
+        /// The beam's last note.
+        End = 3,
+    }
+}
+
+words_enum! {
+    /// A mark on a note.
+    Articulation, "mark" {
+        /// A fermata.
+        Fermata = 0,
+        /// A trill.
+        Trill = 1,
+    }
+}
+
+words_enum! {
+    /// A pitch's letter.
+    Step, "step" {
+        /// C
+        C = 0,
+        /// D
+        D = 1,
+        /// E
+        E = 2,
+        /// F
+        F = 3,
+        /// G
+        G = 4,
+        /// A
+        A = 5,
+        /// B
+        B = 6,
+    }
+}
+
+words_enum! {
+    /// A clef.
+    Clef, "clef" {
+        /// `G-2`
+        Treble = 1,
+        /// `g-2`, sounding an octave lower.
+        Treble8vb = 2,
+        /// `F-4`
+        Bass = 3,
+        /// `C-1`
+        Soprano = 4,
+        /// `C-2`
+        MezzoSoprano = 5,
+        /// `C-3`
+        Alto = 6,
+        /// `C-4`
+        Tenor = 7,
+        /// `C-5`
+        Baritone = 8,
+    }
+}
+
+words_enum! {
+    /// How a meter is drawn, if not by its numbers.
+    TimeSymbol, "meter symbol" {
+        /// `c`, 4/4
+        Common = 1,
+        /// `c/`, 2/2
+        Cut = 2,
+    }
+}
+
+words_enum! {
+    /// A barline.
+    Barline, "barline" {
+        /// A single line.
+        Normal = 0,
+        /// A double line.
+        Double = 1,
+        /// The start of a repeat.
+        RepeatStart = 2,
+        /// The end of a repeat.
+        RepeatEnd = 3,
+    }
+}
+
+/// A tuplet's ratio.
+#[derive(Clone, Copy, Debug, PartialEq, Eq, Hash)]
+pub struct TupletInfo {
+    /// The notes of the group, 3 for a triplet.
+    pub actual_notes: u8,
+    /// The notes in whose time they are played, 2 for a triplet.
+    pub normal_notes: u8,
+}
+
+/// A pitch. Displayed as `F#5` or `Bb3`.
+#[derive(Clone, Copy, Debug, PartialEq, Eq, Hash)]
+pub struct Pitch {
+    /// The place of its letter in the data, from 1.
+    pub place: u32,
+    /// The letter.
+    pub step: Step,
+    /// The octave, 0 to 9; 4 begins at middle C.
+    pub octave: i8,
+    /// The alteration in semitones, -2 to 2, key and bar accounted for.
+    pub alter: i8,
+}
+
+impl Pitch {
+    /// Stands in a list's unused cells.
+    const UNUSED: Self = Self {
+        place: 0,
+        step: Step::C,
+        octave: 0,
+        alter: 0,
+    };
+
+    fn from_words(words: &[i32; PITCH_WORDS]) -> Result<Self, UnknownWord> {
+        Ok(Self {
+            place: number("place", words[pitch::PLACE])?,
+            step: Step::from_word(words[pitch::STEP])?,
+            octave: number("octave", words[pitch::OCTAVE])?,
+            alter: number("alteration", words[pitch::ALTER])?,
+        })
+    }
+}
+
+impl fmt::Display for Pitch {
+    fn fmt(&self, f: &mut fmt::Formatter<'_>) -> fmt::Result {
+        let sign = if self.alter < 0 { "b" } else { "#" };
+        let signs = sign.repeat(self.alter.unsigned_abs().into());
+        write!(f, "{:?}{signs}{}", self.step, self.octave)
+    }
+}
+
+/// A note, chord, grace note or rest.
+#[derive(Clone, Copy, Debug, PartialEq, Eq)]
+pub struct Note {
+    /// The place in the data of the token that stored it, from 1: a letter, `-`, `f` or `i`.
+    pub place: u32,
+    /// What it is.
+    pub kind: NoteKind,
+    /// Its written length.
+    pub duration: Duration,
+    /// Its dots, 0 to 3.
+    pub dot_count: u8,
+    /// Its ties.
+    pub ties: Ties,
+    /// Its part in a beam.
+    pub beam: BeamState,
+    /// Its tuplet.
+    pub tuplet: Option<TupletInfo>,
+    /// Its marks, in order of arrival.
+    pub articulations: List<Articulation, MAX_MARKS>,
+    /// Its pitches, in the order of the letters; none for a rest.
+    pub pitches: List<Pitch, MAX_PITCHES>,
+    /// The number of its bar, from 1.
+    pub bar: u32,
+}
+
+impl Note {
+    /// What a note record stands for.
+    pub fn from_words(words: &NoteWords) -> Result<Self, UnknownWord> {
+        Ok(Self {
+            place: number("place", words[note::PLACE])?,
+            kind: NoteKind::from_word(words[note::KIND])?,
+            duration: Duration::from_word(words[note::DURATION])?,
+            dot_count: number("number of dots", words[note::DOTS])?,
+            ties: Ties::from_word(words[note::TIES])?,
+            beam: BeamState::from_word(words[note::BEAM])?,
+            tuplet: tuplet(words)?,
+            articulations: articulations(words)?,
+            pitches: pitches(words)?,
+            bar: number("bar number", words[note::BAR])?,
+        })
+    }
+}
+
+fn tuplet(words: &NoteWords) -> Result<Option<TupletInfo>, UnknownWord> {
+    unless_zero(words[note::TUPLET_ACTUAL], |actual| {
+        Ok(TupletInfo {
+            actual_notes: number("tuplet", actual)?,
+            normal_notes: number("tuplet", words[note::TUPLET_NORMAL])?,
+        })
+    })
+}
+
+fn articulations(words: &NoteWords) -> Result<List<Articulation, MAX_MARKS>, UnknownWord> {
+    let count = count("number of marks", words[note::MARK_COUNT], MAX_MARKS)?;
+    let marks = (0..count).map(|mark| Articulation::from_word(words[note::MARKS] >> mark & 1));
+    List::collect(Articulation::Fermata, marks)
+}
+
+fn pitches(words: &NoteWords) -> Result<List<Pitch, MAX_PITCHES>, UnknownWord> {
+    let count = count("number of pitches", words[note::PITCH_COUNT], MAX_PITCHES)?;
+    let (pitches, _) = words[note::PITCHES..].as_chunks();
+    List::collect(
+        Pitch::UNUSED,
+        pitches.iter().take(count).map(Pitch::from_words),
+    )
+}
+
+/// A key signature.
+#[derive(Clone, Copy, Debug, PartialEq, Eq, Hash)]
+pub struct KeySignature {
+    /// -7 (seven flats) to 7 (seven sharps).
+    pub fifths: i8,
+}
+
+/// A meter.
+#[derive(Clone, Copy, Debug, PartialEq, Eq, Hash)]
+pub struct TimeSignature {
+    /// The upper number.
+    pub numerator: u8,
+    /// The lower number, a power of two.
+    pub denominator: u8,
+}
+
+/// A bar that has notes. Bar number 1 is the first of a reading.
+#[derive(Clone, Copy, Debug, PartialEq, Eq, Hash)]
+pub struct Bar {
+    /// The index of its first note among the reading's notes.
+    pub first_note: usize,
+    /// The number of its notes.
+    pub note_count: usize,
+    /// The clef set at its start; the first bar always has one.
+    pub clef: Option<Clef>,
+    /// The key set at its start; the first bar always has one.
+    pub key_sig: Option<KeySignature>,
+    /// The meter set at its start.
+    pub time_sig: Option<TimeSignature>,
+    /// How that meter is drawn, if not by its numbers.
+    pub time_symbol: Option<TimeSymbol>,
+    /// The barline before it.
+    pub barline_left: Barline,
+    /// The barline behind it.
+    pub barline_right: Barline,
+}
+
+impl Bar {
+    /// What a bar record stands for.
+    pub fn from_words(words: &BarWords) -> Result<Self, UnknownWord> {
+        Ok(Self {
+            first_note: number("note index", words[bar::FIRST_NOTE])?,
+            note_count: number("number of notes", words[bar::NOTE_COUNT])?,
+            clef: unless_zero(words[bar::CLEF], Clef::from_word)?,
+            key_sig: key_sig(words)?,
+            time_sig: time_sig(words)?,
+            time_symbol: unless_zero(words[bar::SYMBOL], TimeSymbol::from_word)?,
+            barline_left: Barline::from_word(words[bar::LEFT])?,
+            barline_right: Barline::from_word(words[bar::RIGHT])?,
+        })
+    }
+}
+
+fn key_sig(words: &BarWords) -> Result<Option<KeySignature>, UnknownWord> {
+    unless_zero(words[bar::KEY_SET], |_| {
+        let fifths = number("key", words[bar::FIFTHS])?;
+        Ok(KeySignature { fifths })
+    })
+}
+
+fn time_sig(words: &BarWords) -> Result<Option<TimeSignature>, UnknownWord> {
+    unless_zero(words[bar::NUMERATOR], |numerator| {
+        Ok(TimeSignature {
+            numerator: number("meter", numerator)?,
+            denominator: number("meter", words[bar::DENOMINATOR])?,
+        })
+    })
+}

@@ -1,0 +1,204 @@
+//! Why a text isn't read.
+
+use crate::ffi::Answer;
+use crate::limits::{DIAGNOSTIC_CELLS, MAX_MARKS, MAX_NOTES, MAX_PITCHES, MAX_TEXT_BYTES};
+use crate::word::UnknownWord;
+use std::error::Error;
+use std::fmt;
+
+/// Why a text isn't read. A `place` is that of the token in the data, counted from 1.
+#[derive(Clone, Copy, Debug, PartialEq, Eq)]
+pub enum Refusal {
+    /// 1: the text is over [`MAX_TEXT_BYTES`].
+    TooLarge {
+        /// The text's length in bytes.
+        length: usize,
+    },
+    /// 2: fewer than [`DIAGNOSTIC_CELLS`] are lent; never from [`read`](crate::read).
+    DiagnosticCells {
+        /// The number of lent cells.
+        lent: usize,
+    },
+    /// 3: a byte isn't ASCII.
+    NotAscii {
+        /// The offset of the first such byte, from 0.
+        offset: usize,
+    },
+    /// 4: the text is blank.
+    Blank,
+    /// 5: the text is in field form and has no data field.
+    NoData,
+    /// 6: a whole-bar rest, `=`.
+    MeasureRest {
+        /// The place of the `=`.
+        place: u32,
+    },
+    /// 7: the notes would pass [`MAX_NOTES`].
+    TooManyNotes {
+        /// The place of the token that would store them.
+        place: u32,
+    },
+    /// 8: the notes would pass the lent records; never from [`read`](crate::read).
+    NoteRecords {
+        /// The place of the token that would store them.
+        place: u32,
+    },
+    /// 9: a chord would pass [`MAX_PITCHES`].
+    TooManyPitches {
+        /// The place of the letter that would join it.
+        place: u32,
+    },
+    /// 10: a note's marks would pass [`MAX_MARKS`].
+    TooManyMarks {
+        /// The place of the `t` or `)` that would add the mark.
+        place: u32,
+    },
+    /// 11: a figure passes the lent records; never from [`read`](crate::read).
+    FigureRecords {
+        /// The place of the closing `!`.
+        place: u32,
+    },
+    /// 12: the bars would pass the lent records; never from [`read`](crate::read).
+    BarRecords {
+        /// The place of the barline; at the data's end, its length plus 1.
+        place: u32,
+    },
+    /// 13: the data store no note and no rest.
+    NoNotes,
+    /// Not the reader's: crate and library don't belong together.
+    Unknown(UnknownWord),
+}
+
+impl Refusal {
+    /// The refusal that `answer` tells of `text` and `lent` diagnostic cells.
+    pub(crate) fn from_answer(answer: &Answer, text: &[u8], lent: usize) -> Self {
+        let place = answer.place;
+        match answer.number {
+            1 => Self::TooLarge { length: text.len() },
+            2 => Self::DiagnosticCells { lent },
+            3 => Self::NotAscii {
+                offset: text.iter().take_while(|byte| byte.is_ascii()).count(),
+            },
+            4 => Self::Blank,
+            5 => Self::NoData,
+            6 => Self::MeasureRest { place },
+            7 => Self::TooManyNotes { place },
+            8 => Self::NoteRecords { place },
+            9 => Self::TooManyPitches { place },
+            10 => Self::TooManyMarks { place },
+            11 => Self::FigureRecords { place },
+            12 => Self::BarRecords { place },
+            13 => Self::NoNotes,
+            number => Self::Unknown(UnknownWord::new("refusal", number)),
+        }
+    }
+
+    /// The refusal's number, 1 to 13.
+    pub fn number(&self) -> Option<u32> {
+        Some(match self {
+            Self::TooLarge { .. } => 1,
+            Self::DiagnosticCells { .. } => 2,
+            Self::NotAscii { .. } => 3,
+            Self::Blank => 4,
+            Self::NoData => 5,
+            Self::MeasureRest { .. } => 6,
+            Self::TooManyNotes { .. } => 7,
+            Self::NoteRecords { .. } => 8,
+            Self::TooManyPitches { .. } => 9,
+            Self::TooManyMarks { .. } => 10,
+            Self::FigureRecords { .. } => 11,
+            Self::BarRecords { .. } => 12,
+            Self::NoNotes => 13,
+            Self::Unknown(_) => return None,
+        })
+    }
+
+    /// The place in the data, from 1, where the refusal has one.
+    pub fn place(&self) -> Option<u32> {
+        match *self {
+            Self::MeasureRest { place }
+            | Self::TooManyNotes { place }
+            | Self::NoteRecords { place }
+            | Self::TooManyPitches { place }
+            | Self::TooManyMarks { place }
+            | Self::FigureRecords { place }
+            | Self::BarRecords { place } => Some(place),
+            Self::TooLarge { .. }
+            | Self::DiagnosticCells { .. }
+            | Self::NotAscii { .. }
+            | Self::Blank
+            | Self::NoData
+            | Self::NoNotes
+            | Self::Unknown(_) => None,
+        }
+    }
+
+    fn reason(&self, f: &mut fmt::Formatter<'_>) -> fmt::Result {
+        match self {
+            Self::TooLarge { length } => {
+                write!(f, "the text has {length} bytes, over {MAX_TEXT_BYTES}")
+            }
+            Self::DiagnosticCells { lent } => {
+                write!(
+                    f,
+                    "{lent} diagnostic cells are lent, under {DIAGNOSTIC_CELLS}"
+                )
+            }
+            Self::NotAscii { offset } => {
+                write!(f, "the byte at offset {offset} of the text isn't ASCII")
+            }
+            Self::Blank => f.write_str("the text is blank"),
+            Self::NoData => f.write_str("the text has fields, but none is @data:"),
+            Self::MeasureRest { .. } => f.write_str("whole-bar rests (=) aren't read"),
+            Self::TooManyNotes { .. } => write!(f, "the notes pass {MAX_NOTES}"),
+            Self::NoteRecords { .. } => f.write_str("the notes pass the lent note records"),
+            Self::TooManyPitches { .. } => write!(f, "the chord passes {MAX_PITCHES} pitches"),
+            Self::TooManyMarks { .. } => write!(f, "the note's marks pass {MAX_MARKS}"),
+            Self::FigureRecords { .. } => f.write_str("the figure passes the lent figure records"),
+            Self::BarRecords { .. } => f.write_str("the bars pass the lent bar records"),
+            Self::NoNotes => f.write_str("the data hold no note and no rest"),
+            Self::Unknown(unknown) => write!(f, "{unknown}"),
+        }
+    }
+}
+
+impl fmt::Display for Refusal {
+    fn fmt(&self, f: &mut fmt::Formatter<'_>) -> fmt::Result {
+        if let Some(number) = self.number() {
+            write!(f, "refused {number}")?;
+            if let Some(place) = self.place() {
+                write!(f, " at data place {place}")?;
+            }
+            f.write_str(": ")?;
+        }
+        self.reason(f)
+    }
+}
+
+impl Error for Refusal {}
+
+impl From<UnknownWord> for Refusal {
+    fn from(unknown: UnknownWord) -> Self {
+        Self::Unknown(unknown)
+    }
+}
+
+#[cfg(test)]
+mod tests {
+    use super::*;
+
+    #[test]
+    fn a_number_of_another_version() {
+        let answer = Answer {
+            number: 99,
+            place: 7,
+            notes: 0,
+            bars: 0,
+            diagnostics: 0,
+        };
+        let refusal = Refusal::from_answer(&answer, b"C", DIAGNOSTIC_CELLS);
+        assert_eq!((refusal.number(), refusal.place()), (None, None));
+        let message = "99 is no refusal to this crate: libpae.a is of another version";
+        assert_eq!(refusal.to_string(), message);
+    }
+}

@@ -1,0 +1,119 @@
+//! Every refusal with its message.
+
+use urthmoli::words::{BAR_WORDS, DiagnosticCell, NOTE_WORDS};
+use urthmoli::{
+    Buffers, DIAGNOSTIC_CELLS, MAX_MARKS, MAX_PITCHES, MAX_TEXT_BYTES, Refusal, read, read_into,
+};
+
+/// The refusal and its message from `read`.
+fn refused(text: impl AsRef<[u8]>) -> (Refusal, String) {
+    let refusal = read(text).unwrap_err();
+    (refusal, refusal.to_string())
+}
+
+/// The refusal's message, where so many notes, bars, figure records and diagnostic cells are lent.
+fn refused_with(text: &str, [notes, bars, figure, cells]: [usize; 4]) -> String {
+    let buffers = Buffers {
+        notes: &mut vec![[7; NOTE_WORDS]; notes],
+        bars: &mut vec![[7; BAR_WORDS]; bars],
+        figure: &mut vec![[7; NOTE_WORDS]; figure],
+        diagnostics: &mut vec![DiagnosticCell::default(); cells],
+    };
+    read_into(text.as_bytes(), buffers).unwrap_err().to_string()
+}
+
+#[test]
+fn too_long_texts() {
+    let mut text = format!("C{}", " ".repeat(MAX_TEXT_BYTES - 1));
+    assert_eq!(read(&text).unwrap().notes.len(), 1);
+    text.push(' ');
+    let length = MAX_TEXT_BYTES + 1;
+    let message = format!("refused 1: the text has {length} bytes, over {MAX_TEXT_BYTES}");
+    assert_eq!(refused(text), (Refusal::TooLarge { length }, message));
+}
+
+#[test]
+fn bytes_that_are_not_ascii() {
+    let message = "refused 3: the byte at offset 1 of the text isn't ASCII".to_string();
+    let expected = (Refusal::NotAscii { offset: 1 }, message);
+    assert_eq!(refused("Cé"), expected);
+    assert_eq!(refused([b'C', 0xff]), expected);
+}
+
+#[test]
+fn texts_without_notes() {
+    for blank in ["", " \t\n\u{b}\u{c}\r"] {
+        let expected = (Refusal::Blank, "refused 4: the text is blank".to_string());
+        assert_eq!(refused(blank), expected);
+    }
+    let message = "refused 5: the text has fields, but none is @data:".to_string();
+    assert_eq!(refused("@c:C"), (Refusal::NoData, message));
+    let message = "refused 13: the data hold no note and no rest".to_string();
+    assert_eq!(refused("x"), (Refusal::NoNotes, message));
+}
+
+#[test]
+fn tokens_that_are_refused() {
+    let message = "refused 6 at data place 2: whole-bar rests (=) aren't read".to_string();
+    assert_eq!(refused("C="), (Refusal::MeasureRest { place: 2 }, message));
+    let (refusal, _) = refused("@clef:G-2\n@data: C=");
+    assert_eq!(refusal, Refusal::MeasureRest { place: 2 });
+}
+
+/// Figures of figures: 54,612 notes.
+const FIGURES: &str = "!CCCC!!ffff!!ffff!!ffff!!ffff!!ffff!!ffff!ff";
+
+#[test]
+fn too_many_notes() {
+    assert_eq!(read(FIGURES).unwrap().notes.len(), 54_612);
+    let message = "refused 7 at data place 46: the notes pass 100000".to_string();
+    let expected = (Refusal::TooManyNotes { place: 46 }, message);
+    assert_eq!(refused(format!("{FIGURES}/i")), expected);
+}
+
+#[test]
+fn too_many_pitches_and_marks() {
+    let chord = "^C".repeat(MAX_PITCHES);
+    let full = read(&chord[1..]).unwrap().notes[0];
+    assert_eq!(full.pitches.len(), MAX_PITCHES);
+    let (refusal, message) = refused(format!("C{chord}"));
+    let place = 2 * u32::try_from(MAX_PITCHES).unwrap() + 1;
+    assert_eq!(refusal, Refusal::TooManyPitches { place });
+    let expected =
+        format!("refused 9 at data place {place}: the chord passes {MAX_PITCHES} pitches");
+    assert_eq!(message, expected);
+
+    let trills = "t".repeat(MAX_MARKS);
+    let full = read(format!("C{trills}")).unwrap().notes[0];
+    assert_eq!(full.articulations.len(), MAX_MARKS);
+    let message = "refused 10 at data place 10: the note's marks pass 8".to_string();
+    let expected = (Refusal::TooManyMarks { place: 10 }, message);
+    assert_eq!(refused(format!("C{trills}t")), expected);
+    let (refusal, _) = refused(format!("(C{trills})"));
+    assert_eq!(refusal, Refusal::TooManyMarks { place: 11 });
+}
+
+#[test]
+fn too_little_lent() {
+    let cells = DIAGNOSTIC_CELLS;
+    assert_eq!(
+        refused_with("C", [1, 1, 1, cells - 1]),
+        "refused 2: 1023 diagnostic cells are lent, under 1024"
+    );
+    assert_eq!(
+        refused_with("CD", [1, 1, 1, cells]),
+        "refused 8 at data place 2: the notes pass the lent note records"
+    );
+    assert_eq!(
+        refused_with("!C!", [1, 1, 0, cells]),
+        "refused 11 at data place 3: the figure passes the lent figure records"
+    );
+    assert_eq!(
+        refused_with("C/D/", [2, 1, 0, cells]),
+        "refused 12 at data place 4: the bars pass the lent bar records"
+    );
+    assert_eq!(
+        refused_with("C ", [1, 0, 0, cells]),
+        "refused 12 at data place 3: the bars pass the lent bar records"
+    );
+}

@@ -1,0 +1,35 @@
+use Prim.Native.Nat.{_-_, _≤_}
+use lib.ListN.{length}
+use borrow.Author.Needs.{needs}
+use Rattle.layers.proofs.show_all.Statement.{statement}
+use Rattle.layers.proofs.show_all.Tie as tie
+
+abbrev Inv-loop : tie.InvT-loop
+Inv-loop input at₀ t5 t6 at = at ≤ length input
+
+abbrev μ-loop : tie.MeasureT-loop
+μ-loop input at₀ t5 t6 at = length input - at
+
+pub show-all-spec : {M : Type 1} → statement M
+show-all-spec =
+    tie.close
+    (tie.spec
+    Inv-loop
+    μ-loop
+    (λ c. search needs)
+    (λ c κs. search needs)
+    (λ c κs. search needs)
+    (λ c. search needs)
+    (λ c. search needs)
+    (λ c. search needs)
+    (λ c κs. search needs)
+    (λ c. search needs)
+    (λ c. search needs)
+    (λ c. search needs)
+    (λ c. search needs)
+    (λ c κs. search needs)
+    (λ c. search needs)
+    (λ c κs. search needs)
+    (λ c. search needs)
+    (λ c. search needs)
+    (λ c. search needs))

@@ -1,0 +1,26 @@
+use Prim.Native.Nat.{_-_}
+use borrow.Author.Needs.{needs}
+use Rattle.vectors.proofs.same_part.Statement.{statement}
+use Rattle.vectors.proofs.same_part.Tie as tie
+
+abbrev Inv-loop : tie.InvT-loop
+Inv-loop list text start end next₀ i₀ next i = Unit {0}
+
+abbrev μ-loop : tie.MeasureT-loop
+μ-loop list text start end next₀ i₀ next i = end - i
+
+pub same-part-spec : {M : Type 1} → statement M
+same-part-spec =
+    tie.close
+    (tie.spec
+    Inv-loop
+    μ-loop
+    (λ c. search needs)
+    (λ c. search needs)
+    (λ c κs. search needs)
+    (λ c κs. search needs)
+    (λ c. search needs)
+    (λ c. search needs)
+    (λ c. search needs)
+    (λ c κs. search needs)
+    (λ c. search needs))

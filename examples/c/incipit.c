@@ -1,0 +1,197 @@
+/* Reads one incipit, the first argument or standard input, and prints its notes, bars and
+ * diagnostics, or why it is refused. Exit status: 0 accepted, 1 refused, 2 no memory or no input. */
+#include "pae.h"
+
+#include <stdio.h>
+#include <stdlib.h>
+#include <string.h>
+
+typedef struct Buffers {
+    int32_t *notes, *bars, *figure;
+    size_t records;
+} Buffers;
+
+static PaeDiagnostic diagnostics[PAE_DIAGNOSTIC_CELLS];
+
+static void out_of_memory(void) {
+    fputs("no memory\n", stderr);
+    exit(2);
+}
+
+/* Standard input to its end; a byte beyond PAE_MAX_TEXT is enough to be refused. */
+static uint8_t *standard_input(size_t *length) {
+    uint8_t *text = malloc(PAE_MAX_TEXT + 1);
+    if (text == NULL)
+        out_of_memory();
+    *length = fread(text, 1, PAE_MAX_TEXT + 1, stdin);
+    if (ferror(stdin)) {
+        fputs("standard input can't be read\n", stderr);
+        exit(2);
+    }
+    return text;
+}
+
+static Buffers lend(size_t records) {
+    Buffers lent = {malloc(records * PAE_NOTE_WORDS * sizeof(int32_t)),
+                    malloc(records * PAE_BAR_WORDS * sizeof(int32_t)),
+                    malloc(records * PAE_NOTE_WORDS * sizeof(int32_t)), records};
+    if (lent.notes == NULL || lent.bars == NULL || lent.figure == NULL)
+        out_of_memory();
+    return lent;
+}
+
+static void give_back(Buffers lent) {
+    free(lent.notes);
+    free(lent.bars);
+    free(lent.figure);
+}
+
+static PaeReading read_into(const uint8_t *text, size_t length, Buffers lent) {
+    return pae_read(text, length, lent.notes, lent.records * PAE_NOTE_WORDS, lent.bars,
+                    lent.records * PAE_BAR_WORDS, lent.figure, lent.records * PAE_NOTE_WORDS,
+                    diagnostics, PAE_DIAGNOSTIC_CELLS);
+}
+
+static int wants_more(uint32_t number) {
+    return number == PAE_REFUSED_NOTE_RECORDS || number == PAE_REFUSED_FIGURE_RECORDS ||
+           number == PAE_REFUSED_BAR_RECORDS;
+}
+
+/* Lends a record for each byte; repeats may want more. */
+static PaeReading read_text(const uint8_t *text, size_t length, Buffers *lent) {
+    size_t records = length < PAE_MAX_NOTES ? length + 1 : PAE_MAX_NOTES;
+    for (;;) {
+        PaeReading reading;
+        *lent = lend(records);
+        reading = read_into(text, length, *lent);
+        if (!wants_more(reading.number) || records == PAE_MAX_NOTES)
+            return reading;
+        give_back(*lent);
+        records = records < PAE_MAX_NOTES / 2 ? 2 * records : PAE_MAX_NOTES;
+    }
+}
+
+static const char *refusal_text(uint32_t number) {
+    switch (number) {
+    case PAE_REFUSED_TOO_LARGE: return "the text is too long";
+    case PAE_REFUSED_DIAGNOSTIC_CELLS: return "too few diagnostic cells are lent";
+    case PAE_REFUSED_NOT_ASCII: return "a byte of the text isn't ASCII";
+    case PAE_REFUSED_BLANK: return "the text is blank";
+    case PAE_REFUSED_NO_DATA: return "the text has fields, but none is @data:";
+    case PAE_REFUSED_MEASURE_REST: return "whole-bar rests (=) aren't read";
+    case PAE_REFUSED_TOO_MANY_NOTES: return "too many notes";
+    case PAE_REFUSED_NOTE_RECORDS: return "too few note records are lent";
+    case PAE_REFUSED_TOO_MANY_PITCHES: return "too many pitches in a chord";
+    case PAE_REFUSED_TOO_MANY_MARKS: return "too many marks on a note";
+    case PAE_REFUSED_FIGURE_RECORDS: return "too few figure records are lent";
+    case PAE_REFUSED_BAR_RECORDS: return "too few bar records are lent";
+    case PAE_REFUSED_NO_NOTES: return "the data hold no note and no rest";
+    default: return "a refusal of another version";
+    }
+}
+
+static void print_refusal(PaeReading reading) {
+    printf("refused %u", (unsigned)reading.number);
+    if (reading.place != 0)
+        printf(" at data place %u", (unsigned)reading.place);
+    printf(": %s\n", refusal_text(reading.number));
+}
+
+static void print_pitches(const int32_t *note) {
+    static const char *const signs[] = {"bb", "b", "", "#", "##"};
+    int32_t i;
+    for (i = 0; i < note[PAE_NOTE_PITCH_COUNT]; i++) {
+        const int32_t *pitch = note + PAE_NOTE_PITCHES + i * PAE_PITCH_WORDS;
+        printf(" %c%s%d", "CDEFGAB"[pitch[PAE_PITCH_STEP]], signs[pitch[PAE_PITCH_ALTER] + 2],
+               (int)pitch[PAE_PITCH_OCTAVE]);
+    }
+}
+
+static void print_marks(const int32_t *note) {
+    int32_t i;
+    for (i = 0; i < note[PAE_NOTE_MARK_COUNT]; i++)
+        fputs((note[PAE_NOTE_MARKS] >> i & 1) == 1 ? ", trill" : ", fermata", stdout);
+}
+
+static void print_note(const int32_t *note) {
+    static const char *const kinds[] = {"note", "rest", "grace", "slashed grace"};
+    static const char *const durations[] = {"longa", "breve", "whole", "half", "quarter",
+                                            "eighth", "16th", "32nd", "64th", "128th"};
+    static const char *const ties[] = {"", ", tie start", ", tie end", ", tie end and start"};
+    static const char *const beams[] = {"", ", beam begin", ", beam", ", beam end"};
+    printf("  %s", kinds[note[PAE_NOTE_KIND]]);
+    print_pitches(note);
+    printf(", %s%.*s", durations[note[PAE_NOTE_DURATION]], (int)note[PAE_NOTE_DOTS], "...");
+    fputs(ties[note[PAE_NOTE_TIES]], stdout);
+    fputs(beams[note[PAE_NOTE_BEAM]], stdout);
+    if (note[PAE_NOTE_TUPLET_ACTUAL] != 0)
+        printf(", %d to %d", (int)note[PAE_NOTE_TUPLET_ACTUAL], (int)note[PAE_NOTE_TUPLET_NORMAL]);
+    print_marks(note);
+    printf(" (at %d)\n", (int)note[PAE_NOTE_PLACE]);
+}
+
+static void print_bar(const int32_t *bar, unsigned number) {
+    static const char *const clefs[] = {"",       ", treble",        ", treble 8vb",
+                                        ", bass", ", soprano",       ", mezzo-soprano",
+                                        ", alto", ", tenor",         ", baritone"};
+    static const char *const symbols[] = {"", " (common)", " (cut)"};
+    static const char *const lines[] = {"", " double", " repeat start", " repeat end"};
+    printf("bar %u%s", number, clefs[bar[PAE_BAR_CLEF]]);
+    if (bar[PAE_BAR_KEY_SET] == 1)
+        printf(", fifths %d", (int)bar[PAE_BAR_FIFTHS]);
+    if (bar[PAE_BAR_NUMERATOR] != 0)
+        printf(", %d/%d%s", (int)bar[PAE_BAR_NUMERATOR], (int)bar[PAE_BAR_DENOMINATOR],
+               symbols[bar[PAE_BAR_SYMBOL]]);
+    if (bar[PAE_BAR_LEFT] != PAE_BARLINE_NORMAL)
+        printf(", left%s", lines[bar[PAE_BAR_LEFT]]);
+    if (bar[PAE_BAR_RIGHT] != PAE_BARLINE_NORMAL)
+        printf(", right%s", lines[bar[PAE_BAR_RIGHT]]);
+    putchar('\n');
+}
+
+static void print_bars(PaeReading reading, Buffers lent) {
+    uint32_t i;
+    for (i = 0; i < reading.bars; i++) {
+        const int32_t *bar = lent.bars + (size_t)i * PAE_BAR_WORDS;
+        int32_t j;
+        print_bar(bar, (unsigned)i + 1);
+        for (j = 0; j < bar[PAE_BAR_NOTE_COUNT]; j++)
+            print_note(lent.notes + (size_t)(bar[PAE_BAR_FIRST_NOTE] + j) * PAE_NOTE_WORDS);
+    }
+}
+
+static void print_diagnostic(PaeDiagnostic found, const uint8_t *text) {
+    printf("d%d at %s %d: ", (int)found.number,
+           found.place_kind == PAE_PLACE_DATA ? "data place" : "line", (int)found.place);
+    if (found.value_kind == PAE_VALUE_TEXT)
+        printf("%.*s\n", (int)(found.end - found.start), (const char *)text + found.start);
+    else if (found.value_kind == PAE_VALUE_GROUP)
+        puts("()");
+    else
+        printf("%d\n", (int)found.start);
+}
+
+static int print_reading(const uint8_t *text, size_t length) {
+    Buffers lent;
+    PaeReading reading = read_text(text, length, &lent);
+    uint32_t i;
+    if (reading.number != PAE_ACCEPTED)
+        print_refusal(reading);
+    print_bars(reading, lent);
+    for (i = 0; i < reading.diagnostics; i++)
+        print_diagnostic(diagnostics[i], text);
+    give_back(lent);
+    return reading.number == PAE_ACCEPTED ? 0 : 1;
+}
+
+int main(int argc, char **argv) {
+    uint8_t *text;
+    size_t length;
+    int status;
+    if (argc > 1)
+        return print_reading((const uint8_t *)argv[1], strlen(argv[1]));
+    text = standard_input(&length);
+    status = print_reading(text, length);
+    free(text);
+    return status;
+}

@@ -1,0 +1,225 @@
+/* A proved reader of Plaine & Easie Code (PAE) incipits: one function over lent buffers.
+ *
+ * It allocates nothing, keeps nothing between calls and writes only to the buffers lent to it. Link
+ * libpae.a, which `rt staticlib pae` writes to target/staticlib.
+ *
+ * Data places count the bytes of the data from 1; in field form the data are the trimmed value of
+ * the last @data: field, else they are the whole text. Lines count from 1, text offsets from 0.
+ */
+#ifndef PAE_H
+#define PAE_H
+
+#include <stddef.h>
+#include <stdint.h>
+
+#ifdef __cplusplus
+extern "C" {
+#endif
+
+/* The limits of a reading. */
+#define PAE_MAX_TEXT 65535        /* bytes of the text */
+#define PAE_MAX_NOTES 100000      /* notes, rests and copies included */
+#define PAE_MAX_PITCHES 8         /* pitches of a note */
+#define PAE_MAX_MARKS 8           /* marks of a note */
+#define PAE_DIAGNOSTIC_CELLS 1024 /* diagnostics stored, and the fewest cells to lend */
+
+/* The sizes of the records, in words of 32 bits. */
+#define PAE_PITCH_WORDS 4
+#define PAE_NOTE_WORDS (PAE_NOTE_PITCHES + PAE_MAX_PITCHES * PAE_PITCH_WORDS)
+#define PAE_BAR_WORDS 10
+
+/* The words of a note record, and of a figure record. */
+enum {
+    PAE_NOTE_PLACE = 0,         /* data place of the token that stored it: a letter, - f or i */
+    PAE_NOTE_KIND = 1,          /* PAE_KIND_... */
+    PAE_NOTE_DURATION = 2,      /* PAE_DURATION_... */
+    PAE_NOTE_DOTS = 3,          /* 0 to 3 */
+    PAE_NOTE_TIES = 4,          /* PAE_TIE_START, PAE_TIE_END, both added up, or 0 */
+    PAE_NOTE_BEAM = 5,          /* PAE_BEAM_... */
+    PAE_NOTE_TUPLET_ACTUAL = 6, /* notes of the tuplet; 0: none */
+    PAE_NOTE_TUPLET_NORMAL = 7, /* notes in whose time they are played; 0: no tuplet */
+    PAE_NOTE_MARK_COUNT = 8,    /* 0 to PAE_MAX_MARKS */
+    PAE_NOTE_MARKS = 9,         /* bit i is mark i in order of arrival: 1 trill, 0 fermata */
+    PAE_NOTE_PITCH_COUNT = 10,  /* 0 for a rest, else 1 to PAE_MAX_PITCHES */
+    PAE_NOTE_BAR = 11,          /* number of its bar, from 1 */
+    PAE_NOTE_PITCHES = 12       /* the first pitch; unused pitches are 0 */
+};
+
+/* The words of a pitch. Pitch i of a note starts at PAE_NOTE_PITCHES + i * PAE_PITCH_WORDS. */
+enum {
+    PAE_PITCH_PLACE = 0,  /* data place of its letter */
+    PAE_PITCH_STEP = 1,   /* 0 to 6: C D E F G A B */
+    PAE_PITCH_OCTAVE = 2, /* 0 to 9; 4 begins at middle C */
+    PAE_PITCH_ALTER = 3   /* semitones, -2 to 2; key and bar are accounted for */
+};
+
+/* The words of a bar record. */
+enum {
+    PAE_BAR_FIRST_NOTE = 0,  /* index of its first note, from 0 */
+    PAE_BAR_NOTE_COUNT = 1,  /* number of its notes, at least 1 */
+    PAE_BAR_CLEF = 2,        /* PAE_CLEF_... set at its start; 0: none. The first bar has one */
+    PAE_BAR_KEY_SET = 3,     /* 1: a key is set at its start. The first bar has one */
+    PAE_BAR_FIFTHS = 4,      /* -7 (seven flats) to 7 (seven sharps) */
+    PAE_BAR_NUMERATOR = 5,   /* of the meter set at its start, 1 to 255; 0: none */
+    PAE_BAR_DENOMINATOR = 6, /* a power of two, 1 to 128; 0: no meter */
+    PAE_BAR_SYMBOL = 7,      /* PAE_SYMBOL_... of that meter; 0: its numbers */
+    PAE_BAR_LEFT = 8,        /* PAE_BARLINE_... before it */
+    PAE_BAR_RIGHT = 9        /* PAE_BARLINE_... behind it */
+};
+
+enum {
+    PAE_KIND_NOTE = 0,
+    PAE_KIND_REST = 1,
+    PAE_KIND_GRACE = 2,
+    PAE_KIND_SLASHED_GRACE = 3
+};
+
+enum {
+    PAE_DURATION_LONGA = 0, /* four whole notes */
+    PAE_DURATION_BREVE = 1, /* two whole notes */
+    PAE_DURATION_WHOLE = 2,
+    PAE_DURATION_HALF = 3,
+    PAE_DURATION_QUARTER = 4,
+    PAE_DURATION_EIGHTH = 5,
+    PAE_DURATION_16TH = 6,
+    PAE_DURATION_32ND = 7,
+    PAE_DURATION_64TH = 8,
+    PAE_DURATION_128TH = 9
+};
+
+enum {
+    PAE_TIE_START = 1,
+    PAE_TIE_END = 2
+};
+
+enum {
+    PAE_BEAM_NONE = 0,
+    PAE_BEAM_BEGIN = 1,
+    PAE_BEAM_CONTINUE = 2,
+    PAE_BEAM_END = 3
+};
+
+enum {
+    PAE_CLEF_NONE = 0,
+    PAE_CLEF_TREBLE = 1,        /* G-2 */
+    PAE_CLEF_TREBLE_8VB = 2,    /* g-2 */
+    PAE_CLEF_BASS = 3,          /* F-4 */
+    PAE_CLEF_SOPRANO = 4,       /* C-1 */
+    PAE_CLEF_MEZZO_SOPRANO = 5, /* C-2 */
+    PAE_CLEF_ALTO = 6,          /* C-3 */
+    PAE_CLEF_TENOR = 7,         /* C-4 */
+    PAE_CLEF_BARITONE = 8       /* C-5 */
+};
+
+enum {
+    PAE_SYMBOL_NONE = 0,
+    PAE_SYMBOL_COMMON = 1, /* c, 4/4 */
+    PAE_SYMBOL_CUT = 2     /* c/, 2/2 */
+};
+
+enum {
+    PAE_BARLINE_NORMAL = 0,
+    PAE_BARLINE_DOUBLE = 1,
+    PAE_BARLINE_REPEAT_START = 2, /* left only */
+    PAE_BARLINE_REPEAT_END = 3    /* right only */
+};
+
+/* Why a text is refused: the number of a PaeReading, and what its place is. Checked in this order,
+ * 6 to 12 at each token from the left. */
+enum {
+    PAE_ACCEPTED = 0,
+    PAE_REFUSED_TOO_LARGE = 1,         /* the text is over PAE_MAX_TEXT; place 0 */
+    PAE_REFUSED_DIAGNOSTIC_CELLS = 2,  /* fewer than PAE_DIAGNOSTIC_CELLS lent; place 0 */
+    PAE_REFUSED_NOT_ASCII = 3,         /* a byte of 128 or more; place 0 */
+    PAE_REFUSED_BLANK = 4,             /* the text is blank; place 0 */
+    PAE_REFUSED_NO_DATA = 5,           /* field form without a data field; place 0 */
+    PAE_REFUSED_MEASURE_REST = 6,      /* a whole-bar rest; data place of the = */
+    PAE_REFUSED_TOO_MANY_NOTES = 7,    /* over PAE_MAX_NOTES; data place of the token */
+    PAE_REFUSED_NOTE_RECORDS = 8,      /* over the lent note records; data place of the token */
+    PAE_REFUSED_TOO_MANY_PITCHES = 9,  /* over PAE_MAX_PITCHES; data place of the letter */
+    PAE_REFUSED_TOO_MANY_MARKS = 10,   /* over PAE_MAX_MARKS; data place of the t or ) */
+    PAE_REFUSED_FIGURE_RECORDS = 11,   /* over the lent figure records; data place of the ! */
+    PAE_REFUSED_BAR_RECORDS = 12,      /* over the lent bar records; data place of the barline, at
+                                          the end the data's length plus 1 */
+    PAE_REFUSED_NO_NOTES = 13          /* the data hold no note and no rest; place 0 */
+};
+
+/* What a diagnostic is about. acorde's code is pae.unsupported- and the word in brackets. */
+enum {
+    PAE_D_UNSUPPORTED_LINE = 1,      /* [line] in field form, a line that is no field */
+    PAE_D_UNSUPPORTED_FIELD = 2,     /* [field] none of clef, keysig, timesig and data */
+    PAE_D_MID_MEASURE_CHANGE = 3,    /* [mid-measure-change] clef, key or meter behind a note */
+    PAE_D_MENSURAL_CLEF = 4,         /* [clef] a + clef, read as a modern one */
+    PAE_D_UNSUPPORTED_CLEF = 5,      /* [clef] another clef; it isn't taken */
+    PAE_D_UNSUPPORTED_KEY = 6,       /* [key] out of the usual order; the alterations hold */
+    PAE_D_UNSUPPORTED_TIME = 7,      /* [time] no meter; the old one is kept */
+    PAE_D_UNSUPPORTED_OCTAVE = 8,    /* [octave] outside 0 to 9; the old one is kept */
+    PAE_D_UNSUPPORTED_BARLINE = 9,   /* [barline] a lone : */
+    PAE_D_GROUP_OVER_BARLINE = 10,   /* [tuplet] a ) in a bar shorter than the group's start */
+    PAE_D_SMALL_TUPLET = 11,         /* [tuplet] a count below 3 */
+    PAE_D_TUPLET_COUNT = 12,         /* [tuplet] a ; without a group or a count of 0 to 255 */
+    PAE_D_UNMATCHED_PAREN = 13,      /* [token] a ) without ( */
+    PAE_D_TRILL_WITHOUT_NOTE = 14,   /* [token] a t before the bar's first note */
+    PAE_D_UNSUPPORTED_TOKEN = 15,    /* [token] a token without a meaning here */
+    PAE_D_TIE_WITHOUT_NOTE = 16,     /* [tie] a + that follows no note of its bar */
+    PAE_D_FIGURE_OVER_BARLINE = 17,  /* [repeat] a ! in a bar shorter than the figure's start */
+    PAE_D_REPEAT_WITHOUT_FIGURE = 18, /* [repeat] an f without a figure */
+    PAE_D_REPEAT_INSIDE_BAR = 19     /* [repeat] an i that doesn't start a bar, or has none before */
+};
+
+/* What the place of a diagnostic counts. */
+enum {
+    PAE_PLACE_LINE = 1,  /* a line of the text */
+    PAE_PLACE_FIELD = 2, /* a line of the text, with a field that isn't read */
+    PAE_PLACE_DATA = 3   /* a data place */
+};
+
+/* What the value of a diagnostic is. */
+enum {
+    PAE_VALUE_TEXT = 1,  /* the part of the text from start to end */
+    PAE_VALUE_GROUP = 2, /* the value (), which stands nowhere; start and end are 0 */
+    PAE_VALUE_NUMBER = 3 /* the number in start; end is 0 */
+};
+
+typedef struct PaeDiagnostic {
+    int32_t number;     /* PAE_D_... */
+    int32_t place_kind; /* PAE_PLACE_... */
+    int32_t place;      /* from 1 */
+    int32_t value_kind; /* PAE_VALUE_... */
+    int32_t start;      /* offset of the value in the text, or the number */
+    int32_t end;        /* offset behind the value */
+} PaeDiagnostic;
+
+typedef struct PaeReading {
+    uint32_t number;      /* PAE_ACCEPTED or PAE_REFUSED_... */
+    uint32_t place;       /* of the refusal, as said there; 0 where accepted */
+    uint32_t notes;       /* stored note records; 0 after a refusal, as the next two */
+    uint32_t bars;        /* stored bar records */
+    uint32_t diagnostics; /* stored diagnostics; from the 1,025th on they are dropped */
+} PaeReading;
+
+/* Reads text_len bytes of text into the lent buffers.
+ *
+ * notes, bars and figure are lent as words: whole records count, words behind them don't. The figure
+ * is scratch: a record for each note of the longest figure (!...!). diagnostics is lent as cells.
+ * Any bytes and any lengths may be given. No pointer may be null, not even for length 0, and no
+ * buffer may overlap another or the text. What the buffers held before doesn't matter.
+ *
+ * Accepted: the first records of notes, bars and diagnostics stand as counted, and every other lent
+ * cell is 0, all of the figure included. Refused: every lent cell is 0.
+ *
+ * PAE_MAX_NOTES records each of notes, bars and figure rule out the refusals 8, 11 and 12. A text
+ * without f and i needs at most a note record for each letter A to G and -, a bar record for each /
+ * and one more, and as many figure records as note records.
+ */
+PaeReading pae_read(const uint8_t *text, size_t text_len,
+                    int32_t *notes, size_t notes_len,
+                    int32_t *bars, size_t bars_len,
+                    int32_t *figure, size_t figure_len,
+                    PaeDiagnostic *diagnostics, size_t diagnostics_len);
+
+#ifdef __cplusplus
+}
+#endif
+
+#endif

@@ -1,0 +1,329 @@
+//! One call of the library held against what is due: the original's answer, the places and refusals of document 01, and
+//! every lent cell.
+
+use crate::library::{BAR, Cells, DIAGNOSTIC, DIAGNOSTICS, Lent, NOTE, Reading, all_zero};
+use crate::original::{Found, Original, Outcome, PITCH, PITCHES, ROOM, found};
+use crate::walk::{Needs, Refusal, TEXT, Walk, field_in, trimmed};
+
+/// What was compared.
+#[derive(Clone, Copy, Default)]
+pub struct Tally {
+    pub texts: u64,
+    pub calls: u64,
+    /// By number of the refusal; 0: accepted.
+    pub numbers: [u64; 14],
+    /// By number of the diagnostic.
+    pub diagnostics: [u64; 20],
+    pub notes: u64,
+    pub bars: u64,
+    pub faults: u64,
+}
+
+#[derive(Default)]
+pub struct Comparison {
+    original: Original,
+    walk: Walk,
+    cells: Cells,
+    pub tally: Tally,
+}
+
+/// What differs.
+pub type Checked = Result<(), String>;
+
+impl Comparison {
+    /// Reads the text with the original and works out what is due; where both can be held together they must agree.
+    pub fn prepare(&mut self, text: &[u8]) -> Checked {
+        self.tally.texts += 1;
+        self.walk.follow(text);
+        match str::from_utf8(text) {
+            Ok(text) if text.is_ascii() => self.original.read(text),
+            _ => self.original = Original::default(),
+        }
+        if !self.agreed() {
+            return Err("the original and the harness's own walk differ".into());
+        }
+        if self.walk.stop.is_none() && self.original.outcome == Outcome::Accepted {
+            self.enter_places();
+        }
+        Ok(())
+    }
+
+    /// The records that the prepared text needs.
+    pub fn needs(&self) -> Needs {
+        self.walk.needs()
+    }
+
+    /// Calls the library on the prepared text and compares its whole answer.
+    pub fn call(&mut self, text: &[u8], lent: Lent) -> Checked {
+        self.tally.calls += 1;
+        let reading = self.cells.read(text, lent);
+        if !self.cells.guarded() {
+            return Err("a word outside the lent cells was written".into());
+        }
+        let due = self.walk.refusal(lent);
+        let refused = |refusal: Refusal| Reading {
+            number: refusal.number,
+            place: refusal.place,
+            ..Reading::default()
+        };
+        let due = due.map_or_else(|| self.accepted(), refused);
+        if reading != due {
+            return Err(format!("the result differs: due is {due:?}"));
+        }
+        if !self.justified(text, lent, reading.number) {
+            return Err("the original's answer doesn't bear the result out".into());
+        }
+        self.tally.numbers[reading.number as usize] += 1;
+        if reading.number == 0 {
+            self.tally.notes += u64::from(reading.notes);
+            self.tally.bars += u64::from(reading.bars);
+            self.compare_cells(text)
+        } else {
+            self.expect_cleared()
+        }
+    }
+
+    /// Both answers in words.
+    pub fn answers(&mut self, text: &[u8], lent: Lent) -> String {
+        let reading = self.cells.read(text, lent);
+        let library = format!(
+            "library:  {reading:?}{}{}{}{}",
+            shown(" N", self.cells.notes(), NOTE),
+            shown(" B", self.cells.bars(), BAR),
+            shown(" F", self.cells.figure(), NOTE),
+            shown(" D", self.cells.diagnostics(), DIAGNOSTIC),
+        );
+        let mut original = format!(
+            "original: {:?}{}{}",
+            self.original.outcome,
+            shown(" N", &self.original.notes, NOTE),
+            shown(" B", &self.original.bars, BAR),
+        );
+        for diagnostic in self.original.diagnostics.iter().take(SHOWN) {
+            let due = found(diagnostic);
+            original += &format!(
+                " D{},{},{},{},{:?}",
+                due.number, due.place_kind, due.place, due.value_kind, due.value
+            );
+        }
+        let due = self.walk.refusal(lent);
+        format!("{library}\n  {original}\n  due refusal: {due:?}")
+    }
+
+    fn accepted(&self) -> Reading {
+        Reading {
+            number: 0,
+            place: 0,
+            notes: self.original.note_count() as u32,
+            bars: self.original.bar_count() as u32,
+            diagnostics: self.original.diagnostics.len() as u32,
+        }
+    }
+
+    /// Whether the original and the walk tell the same.
+    fn agreed(&self) -> bool {
+        let outcome = self.original.outcome;
+        let too_many = outcome == Outcome::TooManyNotes;
+        match self.walk.stop.map(|stop| stop.number) {
+            Some(1 | 3 | 6) => true,
+            Some(4 | 5) => outcome == Outcome::Empty,
+            Some(7) => too_many,
+            Some(9) => too_many || self.original.passes_pitches(),
+            Some(10) => too_many || self.original.passes_marks(),
+            Some(_) => false,
+            None if self.walk.records.is_empty() => outcome == Outcome::Empty,
+            None => outcome == Outcome::Accepted && self.same_sizes(),
+        }
+    }
+
+    fn same_sizes(&self) -> bool {
+        let sizes = &self.original.sizes;
+        self.walk.needs().bars == self.original.bar_count()
+            && self.walk.records.len() == sizes.len()
+            && self
+                .walk
+                .records
+                .iter()
+                .zip(sizes)
+                .all(|(record, size)| record.pitches == size.pitches && record.marks == size.marks)
+    }
+
+    /// Enters the added words into the original's records.
+    fn enter_places(&mut self) {
+        let words = self.original.notes.chunks_exact_mut(NOTE);
+        for (words, record) in words.zip(&self.walk.records) {
+            words[0] = record.place as i32;
+            for (at, letter) in record.letters[..record.pitches].iter().enumerate() {
+                words[PITCHES + PITCH * at] = *letter as i32;
+            }
+        }
+    }
+
+    /// Whether the original's answer alone allows the number. It reads on where the library stops, and its notes, bars,
+    /// pitches and marks only grow.
+    fn justified(&self, text: &[u8], lent: Lent, number: u32) -> bool {
+        let original = &self.original;
+        let (notes, bars) = (original.note_count(), original.bar_count());
+        let (note_room, bar_room) = (lent.notes / NOTE, lent.bars / BAR);
+        let read_to = |reached: bool| reached || original.outcome == Outcome::TooManyNotes;
+        match number {
+            0 => {
+                original.outcome == Outcome::Accepted
+                    && notes <= note_room
+                    && bars <= bar_room
+                    && !original.passes_pitches()
+                    && !original.passes_marks()
+            }
+            1 => text.len() > TEXT,
+            2 => lent.diagnostics < DIAGNOSTICS,
+            3 => !text.is_ascii(),
+            4 | 5 | 13 => original.outcome == Outcome::Empty,
+            6 => text[self.walk.start..].contains(&b'='),
+            7 => original.outcome == Outcome::TooManyNotes,
+            8 => read_to(notes > note_room),
+            9 => read_to(original.passes_pitches()),
+            10 => read_to(original.passes_marks()),
+            11 => read_to(notes > lent.figure / NOTE),
+            12 => read_to(bars > bar_room),
+            _ => false,
+        }
+    }
+
+    fn expect_cleared(&self) -> Checked {
+        let cells = &self.cells;
+        let all = [
+            cells.notes(),
+            cells.bars(),
+            cells.figure(),
+            cells.diagnostics(),
+        ];
+        if all.iter().all(|words| all_zero(words)) {
+            Ok(())
+        } else {
+            Err("a cell isn't 0 after a refusal".into())
+        }
+    }
+
+    fn compare_cells(&mut self, text: &[u8]) -> Checked {
+        same_records("note", self.cells.notes(), &self.original.notes, NOTE)?;
+        same_records("bar", self.cells.bars(), &self.original.bars, BAR)?;
+        if !all_zero(self.cells.figure()) {
+            return Err("a cell of the figure isn't 0".into());
+        }
+        let (stored, behind) = self
+            .cells
+            .diagnostics()
+            .split_at(self.original.diagnostics.len() * DIAGNOSTIC);
+        if !all_zero(behind) {
+            return Err("a cell behind the diagnostics isn't 0".into());
+        }
+        let words = stored.chunks_exact(DIAGNOSTIC);
+        for (at, (words, diagnostic)) in words.zip(&self.original.diagnostics).enumerate() {
+            let due = found(diagnostic);
+            if !same_diagnostic(text, self.walk.start, words, &due) {
+                return Err(format!("diagnostic {at} differs: {words:?}"));
+            }
+            self.tally.diagnostics[due.number as usize] += 1;
+        }
+        Ok(())
+    }
+}
+
+/// Records as counted, 0 behind them.
+fn same_records(name: &str, cells: &[i32], due: &[i32], size: usize) -> Checked {
+    let (stored, behind) = cells.split_at(due.len());
+    if stored != due {
+        let differing = stored.iter().zip(due).position(|(cell, due)| cell != due);
+        let word = differing.unwrap_or(0);
+        let (record, at) = (word / size, word % size);
+        return Err(format!(
+            "{name} {record}, word {at}: {} for {}",
+            stored[word], due[word]
+        ));
+    }
+    if !all_zero(behind) {
+        return Err(format!("a cell behind the {name} records isn't 0"));
+    }
+    Ok(())
+}
+
+fn same_diagnostic(text: &[u8], data: usize, words: &[i32], due: &Found) -> bool {
+    words[..4] == [due.number, due.place_kind, due.place, due.value_kind]
+        && match due.value_kind {
+            1 => same_value(text, data, words[4], words[5], due),
+            2 => words[4..] == [0, 0] && due.value == "()",
+            _ => words[5] == 0 && words[4].to_string() == due.value,
+        }
+}
+
+/// Whether the offsets cut out the value where it stands.
+fn same_value(text: &[u8], data: usize, start: i32, end: i32, due: &Found) -> bool {
+    let (Ok(start), Ok(end)) = (usize::try_from(start), usize::try_from(end)) else {
+        return false;
+    };
+    let stands = match (due.place_kind, due.value) {
+        (3, _) => start == token_value(text, data + due.place as usize - 1),
+        // Where the blanks of an empty value are trimmed to isn't told.
+        (_, "") => true,
+        _ => Some(start) == line_value(text, due),
+    };
+    stands && text.get(start..end) == Some(due.value.as_bytes())
+}
+
+/// Where the value of the token at this offset starts.
+fn token_value(text: &[u8], token: usize) -> usize {
+    match text[token] {
+        b'%' | b'$' | b'@' | b';' => token + 1,
+        _ => token,
+    }
+}
+
+/// Where the value that a line gives starts: the line's for d1, else the field's.
+fn line_value(text: &[u8], due: &Found) -> Option<usize> {
+    let mut lines = text.split(|byte| *byte == b'\n');
+    let before: usize = lines
+        .by_ref()
+        .take(due.place as usize - 1)
+        .map(|line| line.len() + 1)
+        .sum();
+    let line = trimmed(text, before, before + lines.next()?.len());
+    if due.number == 1 {
+        return Some(line.0);
+    }
+    field_in(text, line).map(|field| field.value.0)
+}
+
+/// As many records are printed of each buffer.
+const SHOWN: usize = 8;
+
+/// Records as lists of words, without the zeros at the end of each; all but the first are left out.
+fn shown(name: &str, words: &[i32], size: usize) -> String {
+    let mut out = String::new();
+    let used = words
+        .iter()
+        .rposition(|word| *word != 0)
+        .map_or(0, |at| at / size + 1);
+    for record in words.chunks(size).take(used.min(SHOWN)) {
+        let length = record
+            .iter()
+            .rposition(|word| *word != 0)
+            .map_or(0, |at| at + 1);
+        out += &format!("{name}{:?}", &record[..length]);
+    }
+    if used > SHOWN {
+        out += &format!("{name}.. {used} in all");
+    }
+    out
+}
+
+/// Cells enough for the needs.
+pub fn ample(needs: Needs) -> Lent {
+    Lent {
+        notes: needs.notes * NOTE,
+        bars: needs.bars * BAR,
+        figure: needs.figure * NOTE,
+        diagnostics: DIAGNOSTICS,
+    }
+}
+
+const _: () = assert!(PITCHES + ROOM * PITCH == NOTE);

@@ -1,0 +1,117 @@
+//! Plausible incipits, by hand and by a seed.
+
+use crate::random::Random;
+
+pub const INCIPITS: [&str; 16] = [
+    "%G-2$xFC@3/4 '4C8DE/4F+F^A/{8CDEF}(CDE)/",
+    "%C-1$bBEA@c ,4G'C/8.6DEFG/4-G/2C-//",
+    "%F-4@c/ 2,,C,G/4.E8F4GA/1C://:2D/",
+    "$xFCG@6/8 8''E'A''C/4.E{8DC'B}/",
+    "@2/4 {6CDEF}{8G''C}/!8{CDEC}!f/i/",
+    "''4C+8C{6DE}/(8CDE)(4F)tG/",
+    "%g-2$bB@3/8 8F/A^''C'F/qqDErC/gB4A/",
+    "'4C//:D/E://F//",
+    "%C-3@4/4 4(CDE;3){8FG}(6FGABC;5)/",
+    "4.'C8q6D8E/n4FxFbF/xxGbbG/G",
+    "8.6{CD}{EF}/t4G(-)/2.C/",
+    "$bBEAD 4C^E^G^''C/'x4FF,F/F",
+    "%G-2@c '2C(D)/=3/4C",
+    "!4CDE!ff/!8{CD}{EF}!/f/i/",
+    "4C+/C+-C/+C/C^E+C^E",
+    "gC8qqDEr4F-/qGg^AB",
+];
+
+pub const FORMS: [&str; 4] = [
+    "@clef:G-2\n@keysig:xFC\n@timesig:3/4\n@data:'4C8DE/4F+FA/",
+    "@data:4CDE\n@clef:C-3\n@keysig:bB\n@timesig:c/\n",
+    "@clef:F-4\r\n@key:x\r\n@data: ,4C/D \r\n",
+    "@title: x\n\n@clef:C+3\nodd\n@timesig:0/4\n@data:C\n\t@data: 8.6{CD}\n",
+];
+
+const LETTERS: &[u8] = b"ABCDEFG";
+
+/// A line as a catalogue has it: clef, key and meter, then bars of about so many bytes in all.
+pub fn plausible(random: &mut Random, size: usize) -> Vec<u8> {
+    let mut text = Vec::new();
+    let mut put = |part: &str| text.extend_from_slice(part.as_bytes());
+    put(random.pick(&["%G-2", "%G-2", "%C-1", "%F-4", "%C-3", "%g-2"]));
+    put(random.pick(&["$xF", "$xFC", "$bB", "$bBE", "$xFCG", ""]));
+    put(random.pick(&["@c", "@3/4", "@2/4", "@6/8", "@c/", "@4/4"]));
+    put(random.pick(&[" ", "", " "]));
+    put(random.pick(&["'", "''", ",", "'"]));
+    put(random.pick(&["4", "8", "2", "8.6"]));
+    while text.len() + 12 < size {
+        bar(random, &mut text);
+    }
+    text.resize(size.max(text.len()), b'C');
+    text
+}
+
+/// A bar of plausible music and the line behind it.
+fn bar(random: &mut Random, text: &mut Vec<u8>) {
+    for _ in 0..1 + random.below(3) {
+        motif(random, text);
+    }
+    text.extend_from_slice(
+        random
+            .pick(&["/", "/", "/", "/", "/", "//", "://:"])
+            .as_bytes(),
+    );
+}
+
+fn letters(random: &mut Random, count: usize, text: &mut Vec<u8>) {
+    text.extend((0..count).map(|_| random.byte(LETTERS)));
+}
+
+fn motif(random: &mut Random, text: &mut Vec<u8>) {
+    match random.below(20) {
+        0..5 => letters(random, 2, text),
+        5..8 => {
+            text.push(random.byte(b"4282468"));
+            letters(random, 1, text);
+        }
+        8..11 => {
+            text.extend_from_slice(b"{8");
+            letters(random, 2, text);
+            text.push(b'}');
+        }
+        11 => {
+            text.extend_from_slice(b"{6");
+            letters(random, 4, text);
+            text.push(b'}');
+        }
+        12 => {
+            text.extend_from_slice(b"8.6");
+            letters(random, 2, text);
+        }
+        13 => {
+            text.extend_from_slice(random.pick(&["''", "'", ","]).as_bytes());
+            letters(random, 2, text);
+        }
+        14 => {
+            text.push(random.byte(b"xbn"));
+            letters(random, 1, text);
+        }
+        15 => text.extend_from_slice(b"4-"),
+        16 => {
+            letters(random, 1, text);
+            text.extend_from_slice(random.pick(&["+", "t", "+", "^E"]).as_bytes());
+            letters(random, 1, text);
+        }
+        17 => {
+            text.push(random.byte(b"gq"));
+            letters(random, 2, text);
+        }
+        18 => {
+            text.extend_from_slice(b"(8");
+            letters(random, 3, text);
+            text.push(b')');
+        }
+        _ => {
+            text.extend_from_slice(b"4.");
+            letters(random, 1, text);
+            text.push(b'8');
+            letters(random, 1, text);
+        }
+    }
+}

@@ -1,0 +1,275 @@
+//! Texts at document 01's limits, and lent sizes around what a text needs.
+
+use super::incipits::{FORMS, INCIPITS};
+use crate::compare::ample;
+use crate::library::{BAR, DIAGNOSTICS, Lent, NOTE};
+use crate::walk::Needs;
+
+/// The part again and again, cut at `size` bytes.
+pub fn filled(part: &str, size: usize) -> Vec<u8> {
+    part.bytes().cycle().take(size).collect()
+}
+
+/// A text of this size: `head`, then `part` as often as there is room, then `tail`.
+pub fn framed(head: &str, part: &str, tail: &str, size: usize) -> Vec<u8> {
+    let room = size - head.len() - tail.len();
+    [head.as_bytes(), &filled(part, room), tail.as_bytes()].concat()
+}
+
+/// Texts about 65,535 bytes long.
+pub fn long_texts() -> Vec<Vec<u8>> {
+    let frames = [
+        ("", "C", ""),
+        ("", " ", ""),
+        ("", " ", "C"),
+        ("", "C/", ""),
+        ("", "8", "C"),
+        ("8", ".", "C"),
+        ("", "'", "C"),
+        ("", "x", "C"),
+        ("", "%abc", " C"),
+        ("C", "?", ""),
+        ("", "-", ""),
+        ("", "C^C^C^C-", ""),
+        ("", "{CD}", ""),
+        ("", "(CDE)", ""),
+        ("", "(CD;2)", ""),
+        ("", "!C!f", ""),
+        ("", "C/i/", ""),
+        ("", "gCqDqqEr", ""),
+        ("", "C+", ""),
+        ("", "Ct", ""),
+        ("", "$xF C/", ""),
+        ("", "@c C/", ""),
+        ("", "@3/4 C/", ""),
+        ("", "=", ""),
+        ("", "C\n", ""),
+        ("@data:", "C", ""),
+        ("@data:", " ", "C"),
+        ("", "@a:\n", "@data:C"),
+        ("", "@a:b\n", ""),
+        ("@data:C\n", "x\n", ""),
+        ("@data:C\n", "@clef:G-2\n", ""),
+        ("@data:C\n", "@keysig:xF\n", ""),
+        ("", "\n", "@data:C"),
+        ("", "@", "C"),
+        ("", ";9", "C"),
+        ("(CC;", "0", "5)"),
+        ("@timesig:", "0", "3/4\n@data:C"),
+        ("@keysig:x", " ", "F\n@data:C"),
+        ("@clef:", "G", "\n@data:C"),
+        ("", "\x7f", "C"),
+        ("", "C'D,,E8.F", ""),
+        ("8.6", "CD", ""),
+    ];
+    let mut texts = Vec::new();
+    for size in 65_533..=65_537 {
+        texts.extend(frames.map(|(head, part, tail)| framed(head, part, tail, size)));
+        texts.push([&filled("C", size - 1)[..], b"\x80"].concat());
+    }
+    texts
+}
+
+/// Texts with about 1,024 diagnostics and more.
+pub fn many_diagnostics() -> Vec<Vec<u8>> {
+    let mut texts = Vec::new();
+    for count in [1_022, 1_023, 1_024, 1_025, 1_026, 1_500, 2_000] {
+        for (head, part, tail) in [
+            ("C", "?", ""),
+            ("C", ")", ""),
+            ("", "%x+y ", "C"),
+            ("C", "%", ""),
+            ("(CC", ";", ")"),
+            ("", "t", "C"),
+            ("", "+", "C"),
+            ("", "f", "C"),
+            ("", "i", "C"),
+            ("C", ",,,,,:", ""),
+            ("@data:C", "\nx", ""),
+            ("@data:C", "\n@a:b", ""),
+            ("@data:C:", "\n@clef:+++", ""),
+            ("C", "(/)C", ""),
+            ("", "(CC;1)", ""),
+            ("C", "!/!C", ""),
+        ] {
+            let text = head.to_string() + &part.repeat(count) + tail;
+            texts.push(text.into_bytes());
+        }
+        let lines = "@data:C???)\n".to_string() + &"@z:y\n".repeat(count - 3);
+        texts.push(lines.into_bytes());
+    }
+    texts
+}
+
+/// Texts with 100,000 notes, one less, one more, and many more: by `i`, by `f`, by doubling figures.
+pub fn many_notes() -> Vec<Vec<u8>> {
+    let bars = "C".repeat(1_000) + &"/i".repeat(99);
+    let figure = format!("!{}!{}", "C".repeat(1_000), "f".repeat(99));
+    let doubling = format!("C{}/", "/!i!f".repeat(15));
+    let fill = |count: usize| "C".repeat(count);
+    let texts = [
+        bars.clone(),
+        format!("{bars}/C"),
+        format!("{bars}/-"),
+        format!("{bars}/i"),
+        format!("{bars}^C"),
+        format!("{bars}t/"),
+        format!("-{bars}"),
+        figure.clone(),
+        format!("{figure}C"),
+        format!("{figure}-"),
+        format!("{figure}f"),
+        format!("{figure}^C"),
+        format!("{figure}/i"),
+        format!("C{figure}"),
+        format!("{doubling}{}", fill(34_464)),
+        format!("{doubling}{}", fill(34_465)),
+        format!("{doubling}{}", fill(34_466)),
+        format!("{doubling}!i!f"),
+        format!("{doubling}{}=", fill(34_465)),
+        format!("{doubling}{}C=", fill(34_465)),
+        format!("{doubling}{}/", fill(34_465)),
+        format!("@data:{doubling}{}", fill(34_466)),
+        "!CCCC!!ffff!!ffff!!ffff!!ffff!!ffff!!ffff!ff/i".to_string(),
+    ];
+    texts.map(String::into_bytes).to_vec()
+}
+
+/// Texts for which all lent sizes around their needs are tried.
+pub fn sized_texts() -> Vec<Vec<u8>> {
+    let more = [
+        "",
+        " ",
+        "C",
+        "-",
+        "C/D",
+        "!C!",
+        "!CD!f",
+        "!CDE!!C!ff/i",
+        "C/i/i",
+        "x",
+        "@a:",
+        "=",
+        "C=",
+        "C^E",
+        "C^C^C^C^C^C^C^C",
+        "C^C^C^C^C^C^C^C^C",
+        "Ctttttttt",
+        "Cttttttttt",
+        "(Ctttttttt)",
+        "(-)",
+        "(CDE;3)",
+        "!!f",
+        "!/!",
+        "C!/!",
+        "C\x7f",
+        "!CC!f!f/!CCC!",
+        "CDEFGABCDEFG",
+        "C/C/C/C/C",
+        "//://:C",
+        "@data:",
+        "@data:C/D\n@clef:G-2",
+        "!C/D!f",
+        "!CD!/i",
+        "!C!/i/i/i!",
+        "C!f!f",
+        "!CDEFG!/!C!",
+    ];
+    let all = INCIPITS.iter().chain(&FORMS).chain(&more);
+    all.map(|text| text.as_bytes().to_vec())
+        .chain([b"C\x80".to_vec()])
+        .collect()
+}
+
+/// Word counts around `need` records.
+fn around(need: usize, size: usize) -> Vec<usize> {
+    let exact = need * size;
+    let mut words = vec![
+        0,
+        1,
+        exact + 1,
+        exact,
+        exact + size - 1,
+        exact + size,
+        exact + 3 * size,
+    ];
+    words.extend(
+        [1, size - 1, size, size + 1, 2 * size]
+            .iter()
+            .filter_map(|less| exact.checked_sub(*less)),
+    );
+    words.sort_unstable();
+    words.dedup();
+    words
+}
+
+/// Every lent size around the needs.
+pub fn sizes(needs: Needs) -> Vec<Lent> {
+    let mut lents = Vec::new();
+    for notes in around(needs.notes, NOTE) {
+        for bars in around(needs.bars, BAR) {
+            for figure in around(needs.figure, NOTE) {
+                lents.push(Lent {
+                    notes,
+                    bars,
+                    figure,
+                    diagnostics: DIAGNOSTICS,
+                });
+            }
+        }
+    }
+    for diagnostics in [0, 1, 1_022, 1_023, 1_024, 1_025, 2_000] {
+        lents.push(Lent {
+            diagnostics,
+            ..ample(needs)
+        });
+        lents.push(Lent {
+            notes: 0,
+            bars: 0,
+            figure: 0,
+            diagnostics,
+        });
+    }
+    lents
+}
+
+/// Few lent sizes, for texts that need many records.
+pub fn few_sizes(needs: Needs) -> Vec<Lent> {
+    let exact = ample(needs);
+    let mut lents = vec![
+        exact,
+        Lent {
+            notes: exact.notes + NOTE - 1,
+            bars: exact.bars + BAR - 1,
+            ..exact
+        },
+        Lent {
+            figure: exact.figure + NOTE + 1,
+            diagnostics: 1_025,
+            ..exact
+        },
+        Lent {
+            diagnostics: 1_023,
+            ..exact
+        },
+    ];
+    if needs.notes > 0 {
+        lents.push(Lent {
+            notes: exact.notes - 1,
+            ..exact
+        });
+    }
+    if needs.bars > 0 {
+        lents.push(Lent {
+            bars: exact.bars - 1,
+            ..exact
+        });
+    }
+    if needs.figure > 0 {
+        lents.push(Lent {
+            figure: exact.figure - 1,
+            ..exact
+        });
+    }
+    lents
+}

@@ -1,0 +1,664 @@
+//! Random texts: lines of tokens, field forms, incipits with slips.
+
+use super::incipits::{FORMS, INCIPITS};
+use crate::random::Random;
+
+const LETTERS: &[u8] = b"ABCDEFG";
+const CLEFS: [&str; 12] = [
+    "G-2", "g-2", "F-4", "C-1", "C-2", "C-3", "C-4", "C-5", "G-2", "F-4", "C-1", "C-3",
+];
+const MENSURAL: [&str; 10] = [
+    "G+2", "g+2", "F+4", "C+1", "C+3", "C+5", "G+3", "x+y", "+++", "1+/",
+];
+const BAD_CLEFS: [&str; 15] = [
+    "", "G", "G-", "G-3", "c-3", "C-6", "C-0", "F-3", "G2-", "---", "%G-", "G-22", "+", "C+", "/:/",
+];
+const ODD_KEYS: [&str; 29] = [
+    "x",
+    "b",
+    "F",
+    "xFG",
+    "xCF",
+    "bEB",
+    "bBx",
+    "xFbB",
+    "bBxF",
+    "xFxC",
+    "bBbE",
+    "xbF",
+    "bxF",
+    "[xF]",
+    "x[F]C",
+    "xFn",
+    "nF",
+    "xFF",
+    "xFCGDAEBF",
+    "bBEADGCFB",
+    "FxF",
+    "xFCb",
+    "bBEx",
+    "[",
+    "n",
+    "xFCGF",
+    "bBEAB",
+    "xAbA",
+    "xFCGDAEBFCGDAEB",
+];
+const METERS: [&str; 13] = [
+    "c", "c/", "3/4", "4/4", "6/8", "2/2", "12/16", "1/1", "255/128", "+3/4", "3/+8", "+2/+2",
+    "03/004",
+];
+const BAD_METERS: [&str; 27] = [
+    "", "3", "/", "/4", "3/", "0/4", "4/0", "3/3", "256/4", "4/256", "3/255", "c.", "cc", "c//",
+    "c/2", "3/4/2", "3//4", "++3/4", "3/4.", ".", "+/4", "3/+", "+", "3.5/4", "1000/4", "4/1024",
+    "4/512",
+];
+const COUNTS: [&str; 29] = [
+    "", "0", "1", "2", "3", "4", "5", "6", "7", "8", "9", "12", "15", "16", "17", "32", "33", "64",
+    "65", "127", "128", "129", "130", "255", "256", "300", "1000", "003", "0000255",
+];
+const UNKNOWN: &[u8] = b"?zHaduewshjklmopvycX.[]|~_*&#<>\"\\`RTIVZ\x00\x01\x08\x0e\x1b\x1c\x1f\x7f";
+const BLANKS: [&str; 9] = [" ", " ", " ", "  ", "\t", "\r", "\r\n", "\x0b", "\x0c"];
+
+#[derive(Clone, Copy)]
+enum Kind {
+    Letter,
+    Few,
+    Octave,
+    Duration,
+    LongPattern,
+    Accidental,
+    Rest,
+    Chord,
+    Joined,
+    Late,
+    Grace,
+    Bar,
+    Figure,
+    Repeat,
+    Copied,
+    Crossing,
+    Beam,
+    Group,
+    Tuplet,
+    Marked,
+    Chords,
+    Tie,
+    Trill,
+    Clef,
+    Key,
+    Meter,
+    Unknown,
+    Blank,
+    Newline,
+    MeasureRest,
+}
+use Kind::*;
+
+/// All kinds, for slips.
+const KINDS: [Kind; 30] = [
+    Letter,
+    Few,
+    Octave,
+    Duration,
+    LongPattern,
+    Accidental,
+    Rest,
+    Chord,
+    Joined,
+    Late,
+    Grace,
+    Bar,
+    Figure,
+    Repeat,
+    Copied,
+    Crossing,
+    Beam,
+    Group,
+    Tuplet,
+    Marked,
+    Chords,
+    Tie,
+    Trill,
+    Clef,
+    Key,
+    Meter,
+    Unknown,
+    Blank,
+    Newline,
+    MeasureRest,
+];
+
+/// How often the kinds of tokens stand in a line; the first suits all, the others bring out one thing.
+const MOODS: [&[(Kind, usize)]; 12] = [
+    &[
+        (Letter, 10),
+        (Octave, 2),
+        (Duration, 3),
+        (Accidental, 3),
+        (Rest, 2),
+        (Chord, 2),
+        (Grace, 2),
+        (Bar, 3),
+        (Figure, 2),
+        (Beam, 2),
+        (Group, 3),
+        (Tuplet, 1),
+        (Tie, 2),
+        (Trill, 1),
+        (Clef, 1),
+        (Key, 1),
+        (Meter, 1),
+        (Unknown, 1),
+        (Blank, 2),
+    ],
+    &[
+        (Few, 8),
+        (Octave, 3),
+        (Accidental, 6),
+        (Bar, 2),
+        (Key, 2),
+        (Joined, 2),
+        (Figure, 1),
+        (Grace, 1),
+    ],
+    &[
+        (Letter, 6),
+        (Duration, 5),
+        (Rest, 3),
+        (Grace, 4),
+        (Joined, 2),
+        (Bar, 1),
+        (Blank, 1),
+    ],
+    &[
+        (Letter, 8),
+        (Figure, 6),
+        (Copied, 2),
+        (Crossing, 1),
+        (Rest, 1),
+        (Bar, 2),
+        (Repeat, 2),
+        (Joined, 2),
+        (Late, 2),
+        (Tie, 2),
+        (Trill, 1),
+        (Beam, 1),
+        (Group, 1),
+    ],
+    &[
+        (Letter, 6),
+        (Group, 5),
+        (Tuplet, 3),
+        (Crossing, 2),
+        (Rest, 1),
+        (Grace, 2),
+        (Bar, 1),
+        (Trill, 1),
+        (Figure, 1),
+    ],
+    &[
+        (Letter, 8),
+        (Beam, 6),
+        (Rest, 2),
+        (Grace, 2),
+        (Bar, 1),
+        (Figure, 1),
+        (Group, 1),
+    ],
+    &[
+        (Letter, 6),
+        (Tie, 5),
+        (Trill, 4),
+        (Late, 2),
+        (Rest, 3),
+        (Joined, 2),
+        (Grace, 2),
+        (Bar, 2),
+        (Repeat, 1),
+    ],
+    &[
+        (Letter, 3),
+        (Clef, 3),
+        (Key, 3),
+        (Meter, 3),
+        (Bar, 3),
+        (Rest, 1),
+        (Blank, 1),
+        (Unknown, 1),
+    ],
+    &[
+        (Few, 4),
+        (Joined, 6),
+        (Chords, 1),
+        (Trill, 2),
+        (Bar, 1),
+        (Copied, 1),
+    ],
+    &[
+        (Letter, 4),
+        (Trill, 6),
+        (Marked, 2),
+        (Tuplet, 1),
+        (Group, 1),
+        (Copied, 1),
+    ],
+    &[(Letter, 5), (Bar, 6), (Repeat, 2), (Clef, 1), (Rest, 1)],
+    &[
+        (Letter, 30),
+        (LongPattern, 1),
+        (Rest, 2),
+        (Grace, 3),
+        (Joined, 2),
+        (Bar, 2),
+    ],
+];
+
+/// Appends random texts to an empty buffer.
+pub struct Lines<'a> {
+    random: &'a mut Random,
+    text: &'a mut Vec<u8>,
+}
+
+/// A random text in place of what stands in `text`.
+pub fn random_text(random: &mut Random, text: &mut Vec<u8>) {
+    text.clear();
+    let kind = random.below(100);
+    let mut lines = Lines { random, text };
+    match kind {
+        0..58 => lines.data_line(),
+        58..75 => lines.field_form(),
+        75..91 => lines.mutated(&INCIPITS),
+        91..97 => lines.mutated(&FORMS),
+        97..99 => lines.any_ascii(),
+        _ => lines.edges(),
+    }
+}
+
+impl Lines<'_> {
+    fn put(&mut self, part: &str) {
+        self.text.extend_from_slice(part.as_bytes());
+    }
+
+    fn put_any(&mut self, from: &[&str]) {
+        let part = self.random.pick(from);
+        self.put(part);
+    }
+
+    fn put_byte(&mut self, from: &[u8]) {
+        let byte = self.random.byte(from);
+        self.text.push(byte);
+    }
+
+    fn repeated(&mut self, byte: u8, count: usize) {
+        self.text.extend(std::iter::repeat_n(byte, count));
+    }
+
+    fn letters(&mut self, most: usize) {
+        for _ in 0..self.random.below(most + 1) {
+            self.put_byte(b"ABCDEFG-gq");
+        }
+    }
+
+    fn data_line(&mut self) {
+        let mood = if self.random.percent(33) {
+            0
+        } else {
+            self.random.below(MOODS.len())
+        };
+        let count = match self.random.below(1_000) {
+            0 => 200 + self.random.below(1_800),
+            1..20 => 25 + self.random.below(100),
+            _ => 1 + self.random.below(24),
+        };
+        let whole_bars = self.random.percent(2);
+        for _ in 0..count {
+            self.weighted(MOODS[mood]);
+        }
+        if whole_bars {
+            self.token(MeasureRest);
+            self.weighted(MOODS[mood]);
+        }
+    }
+
+    fn weighted(&mut self, mood: &[(Kind, usize)]) {
+        let sum = mood.iter().map(|(_, weight)| weight).sum();
+        let mut at = self.random.below(sum);
+        for (kind, weight) in mood {
+            if at < *weight {
+                return self.token(*kind);
+            }
+            at -= weight;
+        }
+    }
+
+    fn token(&mut self, kind: Kind) {
+        match kind {
+            Letter => self.put_byte(LETTERS),
+            Few => self.put_byte(b"CCCDF"),
+            Octave => self.octave(),
+            Duration => self.pattern(4),
+            LongPattern => self.long_pattern(),
+            Accidental => self.put_any(&["x", "x", "b", "b", "n", "n", "xx", "bb", "xxx", "bbbb"]),
+            Rest => self.put("-"),
+            Chord => self.put("^"),
+            Joined => self.joined(),
+            Late => self.late(),
+            Grace => self.put_any(&["g", "q", "qq", "r", "qq", "r", "qqq"]),
+            Bar => self.bar(),
+            Figure => self.put_byte(b"!!!fffi"),
+            Repeat => self.put("/i"),
+            Copied => self.copied(),
+            Crossing => self.crossing(),
+            Beam => self.put_byte(b"{{}}"),
+            Group => self.group(),
+            Tuplet => self.tuplet(),
+            Marked => self.marked(),
+            Chords => self.chords(),
+            Tie => self.put("+"),
+            Trill => self.put("t"),
+            Clef => {
+                self.put("%");
+                self.clef();
+            }
+            Key => {
+                self.put("$");
+                self.key();
+            }
+            Meter => {
+                self.put("@");
+                self.meter();
+            }
+            Unknown => self.put_byte(UNKNOWN),
+            Blank => self.put_any(&BLANKS),
+            Newline => self.put("\n"),
+            MeasureRest => self.put_any(&["=", "=3", "=0", "=999999"]),
+        }
+    }
+
+    fn octave(&mut self) {
+        let mark = self.random.byte(b"'',");
+        let count = [1, 1, 1, 2, 2, 3, 4, 5, 6, 7, 8, 130, 300][self.random.below(13)];
+        self.repeated(mark, count);
+    }
+
+    fn pattern(&mut self, most: usize) {
+        for _ in 0..1 + self.random.below(most) {
+            self.put_byte(b"0912486357448866");
+            let dots = [0, 0, 0, 0, 0, 1, 1, 2, 3, 4, 6][self.random.below(11)];
+            self.repeated(b'.', dots);
+        }
+    }
+
+    /// A pattern of many elements or of many dots.
+    fn long_pattern(&mut self) {
+        let most = [8, 40, 300, 600][self.random.below(4)];
+        self.pattern(most);
+        let dots = self.random.below(300);
+        self.repeated(b'.', dots);
+        self.pattern(4);
+    }
+
+    fn joined(&mut self) {
+        self.put("^");
+        self.put_any(&["", "", "x", "n", "'", ","]);
+        self.put_byte(LETTERS);
+    }
+
+    /// A mark for the next letter, something else, and the letter.
+    fn late(&mut self) {
+        self.put_any(&["^", "x", "q", "+", "g", "n"]);
+        self.put_any(&["-", "/", "f", "-f", "/i", "qq", " "]);
+        self.put_byte(LETTERS);
+    }
+
+    fn bar(&mut self) {
+        self.put_any(&[
+            "/", "/", "/", "//", "//:", "://", "://:", "/:", ":", "///", ":/", "//://:",
+        ]);
+    }
+
+    fn copied(&mut self) {
+        self.put("!");
+        self.letters(4);
+        self.put("!");
+        let times = self.random.below(3);
+        self.repeated(b'f', times);
+    }
+
+    fn crossing(&mut self) {
+        self.letters(3);
+        let (open, close) = [("!", "!"), ("(", ")"), ("{", "}")][self.random.below(3)];
+        self.put(open);
+        self.letters(2);
+        self.put("/");
+        self.letters(3);
+        self.put(close);
+    }
+
+    fn group(&mut self) {
+        match self.random.below(5) {
+            0 | 1 => self.put("("),
+            2 | 3 => self.put(")"),
+            _ => {
+                self.put(";");
+                self.put_any(&COUNTS);
+            }
+        }
+    }
+
+    fn tuplet(&mut self) {
+        self.put("(");
+        self.letters(5);
+        match self.random.below(3) {
+            0 => {}
+            1 => {
+                self.put(";");
+                self.put_any(&COUNTS);
+            }
+            _ => {
+                self.put(";");
+                self.put_byte(b"0122345");
+            }
+        }
+        self.put(")");
+    }
+
+    /// A group of one with marks up to the limit and past it.
+    fn marked(&mut self) {
+        self.put("(");
+        self.put_any(&["C", "D", "-", "qED", "FgG"]);
+        let trills = [0, 1, 7, 8, 8][self.random.below(5)];
+        self.repeated(b't', trills);
+        self.put_any(&["", "", "gA", "qB", "C"]);
+        self.put(")");
+        let trills = [0, 0, 1, 7][self.random.below(4)];
+        self.repeated(b't', trills);
+    }
+
+    fn chords(&mut self) {
+        self.put_byte(LETTERS);
+        for _ in 0..[2, 5, 6, 7, 8][self.random.below(5)] {
+            self.joined();
+        }
+    }
+
+    fn clef(&mut self) {
+        match self.random.below(4) {
+            0 | 1 => self.put_any(&CLEFS),
+            2 => self.put_any(&MENSURAL),
+            _ => self.put_any(&BAD_CLEFS),
+        }
+    }
+
+    fn key(&mut self) {
+        match self.random.below(20) {
+            0..9 => {
+                let order = self.random.pick(&["xFCGDAEB", "bBEADGCF"]);
+                let signs = self.random.below(8);
+                self.put(&order[..=signs]);
+            }
+            9..16 => self.put_any(&ODD_KEYS),
+            _ => {
+                for _ in 0..self.random.below(8) {
+                    self.put_byte(b"xxbbnABCDEFG[]");
+                }
+            }
+        }
+    }
+
+    fn meter(&mut self) {
+        match self.random.below(20) {
+            0..10 => self.put_any(&METERS),
+            10..17 => self.put_any(&BAD_METERS),
+            _ => {
+                for _ in 0..1 + self.random.below(6) {
+                    self.put_byte(b"0123468/c.+/");
+                }
+            }
+        }
+    }
+
+    fn field_form(&mut self) {
+        let end = self.random.pick(&["\n", "\n", "\n", "\r\n"]);
+        let lines = self.random.below(6);
+        let data = [0, 1, 1, 1, 1, 1, 1, 1, 2, 3][self.random.below(10)];
+        let mut left = data;
+        for line in 0..lines + data {
+            if self.random.below(lines + data - line) < left {
+                left -= 1;
+                self.data_field();
+            } else {
+                self.field_line();
+            }
+            if line + 1 < lines + data || self.random.percent(40) {
+                self.put(end);
+            }
+        }
+    }
+
+    fn data_field(&mut self) {
+        self.put_any(&["", "", "", " ", "\t"]);
+        self.put("@data:");
+        self.put_any(&["", "", " ", "\x0b "]);
+        self.data_line();
+        self.put_any(&["", "", "", " ", "\r", "\t "]);
+    }
+
+    fn field_line(&mut self) {
+        self.put_any(&["", "", "", " ", "\t", "  "]);
+        match self.random.below(16) {
+            0 | 1 => {
+                self.put_any(&["@clef:", "@clef:", "@clef: "]);
+                self.clef();
+            }
+            2..6 => {
+                self.put_any(&["@keysig:", "@keysig:", "@keysig:\t"]);
+                self.spaced_key();
+            }
+            6..8 => {
+                self.put_any(&["@timesig:", "@timesig:", "@timesig: "]);
+                self.meter();
+            }
+            8..10 => {
+                self.put_any(&[
+                    "@key:", "@title:", "@Data:", "@CLEF:", "@a:", "@datas:", "@dat:", "@clefs:",
+                    "@Z:",
+                ]);
+                self.put_any(&["", "x", "G-2", " a b", ":", "@data:C", "C/D"]);
+            }
+            10..13 => self.put_any(&[
+                "hello",
+                "@:x",
+                "@",
+                "@clef",
+                "clef:G-2",
+                "@c1:x",
+                "@da ta:C",
+                "@ data:C",
+                "@@data:C",
+                "4CDE",
+                ":",
+                "@data",
+                "@clef/:G-2",
+                "x @data:C",
+            ]),
+            13 | 14 => self.put_any(&["", "", " ", "\t \x0b"]),
+            _ => self.data_line(),
+        }
+        self.put_any(&["", "", "", " ", "\t", "\r"]);
+    }
+
+    fn spaced_key(&mut self) {
+        let from = self.text.len();
+        self.key();
+        if self.random.percent(50) {
+            let key = self.text.split_off(from);
+            for byte in key {
+                self.text.push(byte);
+                self.put_any(&["", "", " ", "\t"]);
+            }
+        }
+    }
+
+    /// A good text with a few slips.
+    fn mutated(&mut self, from: &[&str]) {
+        self.put_any(from);
+        for _ in 0..[1, 1, 2, 3, 4][self.random.below(5)] {
+            self.slip();
+        }
+    }
+
+    fn slip(&mut self) {
+        let size = self.text.len();
+        let at = self.random.below(size + 1);
+        let end = (at + 1 + self.random.below(3)).min(size);
+        match self.random.below(8) {
+            0 => drop(self.text.drain(at..end)),
+            1 => {
+                let byte = self.random.below(128) as u8;
+                self.text.insert(at, byte);
+            }
+            2 if at < size => self.text[at] = self.random.below(128) as u8,
+            3 if at + 1 < size => self.text.swap(at, at + 1),
+            4 => self.text.extend_from_within(at..end),
+            5 => self.slip_in(at, at),
+            6 => self.slip_in(at, end),
+            _ => {
+                let doubled = self.text[at..end].to_vec();
+                self.text.splice(at..at, doubled);
+            }
+        }
+    }
+
+    /// A random token in place of a part.
+    fn slip_in(&mut self, at: usize, end: usize) {
+        let tail = self.text.split_off(end);
+        self.text.truncate(at);
+        let kind = KINDS[self.random.below(KINDS.len())];
+        self.token(kind);
+        self.text.extend(tail);
+    }
+
+    fn any_ascii(&mut self) {
+        for _ in 0..self.random.below(40) {
+            let byte = self.random.below(128) as u8;
+            self.text.push(byte);
+        }
+    }
+
+    /// Blanks, and bytes of 128 and more.
+    fn edges(&mut self) {
+        for _ in 0..self.random.below(5) {
+            match self.random.below(4) {
+                0 => self.put_any(&BLANKS),
+                1 => self.put("\n"),
+                2 => self.put("C"),
+                _ => {
+                    let byte = 128 + self.random.below(128) as u8;
+                    self.text.push(byte);
+                }
+            }
+        }
+    }
+}

@@ -1,0 +1,6 @@
+//! The texts.
+
+pub mod incipits;
+pub mod limits;
+pub mod lines;
+pub mod short;

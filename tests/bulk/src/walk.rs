@@ -1,0 +1,385 @@
+//! Places and refusals, which the original doesn't have, worked out from the text by document 01: where each record comes
+//! from, and where a reading stops. Held against the original's counts on every text that both read to the end.
+
+use crate::library::{BAR, DIAGNOSTICS, Lent, NOTE};
+use crate::original::ROOM;
+
+/// The longest text, and the most notes.
+pub const TEXT: usize = 65_535;
+pub const NOTES: usize = 100_000;
+
+/// Where a reading stops, and why.
+#[derive(Clone, Copy, Debug, Default, PartialEq, Eq, PartialOrd, Ord)]
+pub struct Refusal {
+    pub place: u32,
+    pub number: u32,
+}
+
+/// A stored note or rest.
+#[derive(Clone, Copy, Default)]
+pub struct Record {
+    pub place: u32,
+    pub letters: [u32; ROOM],
+    pub pitches: usize,
+    pub marks: usize,
+    grace: bool,
+}
+
+/// How many records of each buffer a text needs.
+#[derive(Clone, Copy, Debug, Default)]
+pub struct Needs {
+    pub notes: usize,
+    pub bars: usize,
+    pub figure: usize,
+}
+
+#[derive(Clone, Copy)]
+struct Group {
+    start: usize,
+    counted: bool,
+}
+
+#[derive(Default)]
+pub struct Walk {
+    /// The stored records; more than 100,000 never stand here.
+    pub records: Vec<Record>,
+    /// Where the data starts in the text.
+    pub start: usize,
+    /// The stop that no lent size helps.
+    pub stop: Option<Refusal>,
+    bars: Vec<u32>,
+    figures: Vec<(u32, usize)>,
+    figure: Vec<Record>,
+    first: usize,
+    last_bar: (usize, usize),
+    mark: Option<usize>,
+    group: Option<Group>,
+    chord: bool,
+    grace: bool,
+    grace_group: bool,
+}
+
+impl Walk {
+    /// Follows a text as far as it can be read with ample cells.
+    pub fn follow(&mut self, text: &[u8]) {
+        self.forget();
+        let stopped = |number| Some(Refusal { place: 0, number });
+        if text.len() > TEXT {
+            self.stop = stopped(1);
+        } else if !text.is_ascii() {
+            self.stop = stopped(3);
+        } else if text.iter().all(|byte| is_blank(*byte)) {
+            self.stop = stopped(4);
+        } else if let Some((start, end)) = data_of(text) {
+            self.start = start;
+            self.follow_data(&text[start..end]);
+        } else {
+            self.stop = stopped(5);
+        }
+    }
+
+    fn forget(&mut self) {
+        let mut fresh = Walk::default();
+        std::mem::swap(&mut fresh.records, &mut self.records);
+        std::mem::swap(&mut fresh.bars, &mut self.bars);
+        std::mem::swap(&mut fresh.figures, &mut self.figures);
+        std::mem::swap(&mut fresh.figure, &mut self.figure);
+        fresh.records.clear();
+        fresh.bars.clear();
+        fresh.figures.clear();
+        fresh.figure.clear();
+        *self = fresh;
+    }
+
+    pub fn needs(&self) -> Needs {
+        Needs {
+            notes: self.records.len(),
+            bars: self.bars.len(),
+            figure: self
+                .figures
+                .iter()
+                .map(|(_, size)| *size)
+                .max()
+                .unwrap_or(0),
+        }
+    }
+
+    /// The refusal that is due with these cells lent, if any.
+    pub fn refusal(&self, lent: Lent) -> Option<Refusal> {
+        if self.stop.is_some_and(|stop| stop.number == 1) {
+            return self.stop;
+        }
+        if lent.diagnostics < DIAGNOSTICS {
+            return Some(Refusal {
+                place: 0,
+                number: 2,
+            });
+        }
+        if self.stop.is_some_and(|stop| stop.place == 0) {
+            return self.stop;
+        }
+        let at = |place: u32, number| Refusal { place, number };
+        let note = self
+            .records
+            .get(lent.notes / NOTE)
+            .map(|record| at(record.place, 8));
+        let bar = self.bars.get(lent.bars / BAR).map(|place| at(*place, 12));
+        let mut figures = self.figures.iter();
+        let figure = figures
+            .find(|(_, size)| *size > lent.figure / NOTE)
+            .map(|(place, _)| at(*place, 11));
+        let none_stored = self.records.is_empty().then_some(at(0, 13));
+        [self.stop, note, bar, figure]
+            .into_iter()
+            .flatten()
+            .min()
+            .or(none_stored)
+    }
+
+    fn follow_data(&mut self, data: &[u8]) {
+        let mut at = 0;
+        while at < data.len() {
+            let end = token_end(data, at);
+            let place = at as u32 + 1;
+            if let Err(number) = self.take(&data[at..end], place) {
+                self.stop = Some(Refusal { place, number });
+                return;
+            }
+            at = end;
+        }
+        self.close(data.len() as u32 + 1);
+    }
+
+    /// The records of the open bar.
+    fn open(&self) -> usize {
+        self.records.len() - self.first
+    }
+
+    fn take(&mut self, token: &[u8], place: u32) -> Result<(), u32> {
+        match token {
+            [b'A'..=b'G'] => return self.letter(place),
+            b"-" => {
+                return self.store(Record {
+                    place,
+                    ..Record::default()
+                });
+            }
+            b"^" => self.chord = true,
+            b"g" | b"q" => self.grace = true,
+            b"qq" => self.grace_group = true,
+            b"r" => self.grace_group = false,
+            b"t" if self.open() > 0 => return self.mark_at(self.records.len() - 1),
+            b"/" | b"//" | b"//:" | b"://" | b"://:" => self.close(place),
+            b"(" => {
+                self.group = Some(Group {
+                    start: self.open(),
+                    counted: false,
+                })
+            }
+            [b';', digits @ ..] => self.count(digits),
+            b")" => return self.close_group(),
+            b"!" => self.mark_figure(place),
+            b"f" => return self.append_figure(place),
+            b"i" if self.open() == 0 && !self.bars.is_empty() => return self.repeat_bar(place),
+            [b'=', ..] => return Err(6),
+            _ => {}
+        }
+        Ok(())
+    }
+
+    fn store(&mut self, record: Record) -> Result<(), u32> {
+        if self.records.len() == NOTES {
+            return Err(7);
+        }
+        self.records.push(record);
+        Ok(())
+    }
+
+    fn letter(&mut self, place: u32) -> Result<(), u32> {
+        let open = self.open();
+        let joins = std::mem::take(&mut self.chord) && open > 0;
+        if let Some(last) = self
+            .records
+            .last_mut()
+            .filter(|last| joins && last.pitches > 0)
+        {
+            if last.pitches == ROOM {
+                return Err(9);
+            }
+            last.letters[last.pitches] = place;
+            last.pitches += 1;
+            return Ok(());
+        }
+        let grace = std::mem::take(&mut self.grace) || self.grace_group;
+        let mut record = Record {
+            place,
+            pitches: 1,
+            grace,
+            ..Record::default()
+        };
+        record.letters[0] = place;
+        self.store(record)
+    }
+
+    fn mark_at(&mut self, index: usize) -> Result<(), u32> {
+        if self.records[index].marks == ROOM {
+            return Err(10);
+        }
+        self.records[index].marks += 1;
+        Ok(())
+    }
+
+    fn close(&mut self, place: u32) {
+        if self.open() > 0 {
+            self.bars.push(place);
+            self.last_bar = (self.first, self.records.len());
+            self.first = self.records.len();
+        }
+    }
+
+    fn count(&mut self, digits: &[u8]) {
+        let value = digits.iter().fold(0_u32, |value, digit| {
+            (value * 10 + u32::from(digit - b'0')).min(256)
+        });
+        if let Some(group) = &mut self.group
+            && !digits.is_empty()
+            && value < 256
+        {
+            group.counted = true;
+        }
+    }
+
+    /// A group of one record without a count is a fermata.
+    fn close_group(&mut self) -> Result<(), u32> {
+        let open = self.open();
+        let Some(group) = self.group.take().filter(|group| group.start <= open) else {
+            return Ok(());
+        };
+        let from = self.first + group.start;
+        let mut timed = (from..self.records.len()).filter(|index| !self.records[*index].grace);
+        match (timed.next(), timed.next()) {
+            (Some(single), None) if !group.counted => self.mark_at(single),
+            _ => Ok(()),
+        }
+    }
+
+    fn mark_figure(&mut self, place: u32) {
+        let Some(start) = self.mark.take() else {
+            self.mark = Some(self.open());
+            return;
+        };
+        if start <= self.open() {
+            self.figure.clear();
+            self.figure
+                .extend_from_slice(&self.records[self.first + start..]);
+            self.figures.push((place, self.figure.len()));
+        }
+    }
+
+    fn append_figure(&mut self, place: u32) -> Result<(), u32> {
+        if self.records.len() + self.figure.len() > NOTES {
+            return Err(7);
+        }
+        let copies = self.figure.iter().map(|record| Record { place, ..*record });
+        self.records.extend(copies);
+        Ok(())
+    }
+
+    fn repeat_bar(&mut self, place: u32) -> Result<(), u32> {
+        let (from, to) = self.last_bar;
+        if self.records.len() + to - from > NOTES {
+            return Err(7);
+        }
+        for index in from..to {
+            self.records.push(Record {
+                place,
+                ..self.records[index]
+            });
+        }
+        Ok(())
+    }
+}
+
+pub fn is_blank(byte: u8) -> bool {
+    matches!(byte, 9..=13 | 32)
+}
+
+/// The part of `text` between `start` and `end` without the blanks about it.
+pub fn trimmed(text: &[u8], mut start: usize, mut end: usize) -> (usize, usize) {
+    while start < end && is_blank(text[end - 1]) {
+        end -= 1;
+    }
+    while start < end && is_blank(text[start]) {
+        start += 1;
+    }
+    (start, end)
+}
+
+/// A field line's key and value, as parts of the text.
+pub struct Field {
+    pub key: (usize, usize),
+    pub value: (usize, usize),
+}
+
+/// The field that stands in a trimmed line.
+pub fn field_in(text: &[u8], (start, end): (usize, usize)) -> Option<Field> {
+    if start == end || text[start] != b'@' {
+        return None;
+    }
+    let key = start + 1;
+    let letters = text[key..end]
+        .iter()
+        .take_while(|byte| byte.is_ascii_alphabetic());
+    let colon = key + letters.count();
+    (colon > key && colon < end && text[colon] == b':').then(|| Field {
+        key: (key, colon),
+        value: trimmed(text, colon + 1, end),
+    })
+}
+
+/// Where the data stands; none in field form without a data field.
+fn data_of(text: &[u8]) -> Option<(usize, usize)> {
+    if !text.contains(&b'@') {
+        return Some((0, text.len()));
+    }
+    let (mut form, mut data, mut start) = (false, None, 0);
+    for line in text.split(|byte| *byte == b'\n') {
+        let end = start + line.len();
+        if let Some(field) = field_in(text, trimmed(text, start, end)) {
+            form = true;
+            if &text[field.key.0..field.key.1] == b"data" {
+                data = Some(field.value);
+            }
+        }
+        start = end + 1;
+    }
+    if form { data } else { Some((0, text.len())) }
+}
+
+/// Where the token that starts at `at` ends.
+fn token_end(data: &[u8], at: usize) -> usize {
+    let rest = &data[at + 1..];
+    let run = |accept: fn(u8) -> bool| rest.iter().take_while(|byte| accept(**byte)).count();
+    let more = match data[at] {
+        b'\'' => run(|byte| byte == b'\''),
+        b',' => run(|byte| byte == b','),
+        b'x' => run(|byte| byte == b'x'),
+        b'b' => run(|byte| byte == b'b'),
+        b'0'..=b'9' => run(|byte| byte.is_ascii_digit() || byte == b'.'),
+        b';' | b'=' => run(|byte| byte.is_ascii_digit()),
+        b'%' => rest
+            .iter()
+            .take(3)
+            .take_while(|byte| !is_blank(**byte))
+            .count(),
+        b'$' => run(|byte| matches!(byte, b'x' | b'b' | b'n' | b'A'..=b'G' | b'[' | b']')),
+        b'@' => run(|byte| matches!(byte, b'0'..=b'9' | b'/' | b'c' | b'.' | b'+')),
+        b':' if rest.starts_with(b"//:") => 3,
+        b':' if rest.starts_with(b"//") => 2,
+        b'/' if rest.starts_with(b"/:") => 2,
+        b'/' if rest.starts_with(b"/") => 1,
+        b'q' if rest.starts_with(b"q") => 1,
+        _ => 0,
+    };
+    at + 1 + more
+}

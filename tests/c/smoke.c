@@ -1,0 +1,200 @@
+/* The reader from C: the thirteen proved lines, refusals over poisoned buffers, and little lent. */
+#include "pae.h"
+
+#include <stdio.h>
+#include <string.h>
+
+enum { RECORDS = 16, POISON = 0x5a, CELL_WORDS = 6 };
+
+static int32_t notes[RECORDS * PAE_NOTE_WORDS];
+static int32_t bars[RECORDS * PAE_BAR_WORDS];
+static int32_t figure[RECORDS * PAE_NOTE_WORDS];
+static PaeDiagnostic cells[PAE_DIAGNOSTIC_CELLS + 1];
+static PaeReading got;
+static int failures;
+
+#define CHECK(condition) check((condition), #condition, __LINE__)
+
+static void check(int holds, const char *condition, int line) {
+    if (!holds) {
+        printf("smoke.c:%d: not %s\n", line, condition);
+        failures++;
+    }
+}
+
+static void poison(void) {
+    memset(notes, POISON, sizeof notes);
+    memset(bars, POISON, sizeof bars);
+    memset(figure, POISON, sizeof figure);
+    memset(cells, POISON, sizeof cells);
+}
+
+/* Reads into poisoned buffers of so many words each, and cells. */
+static void read_lent(const char *text, size_t note_words, size_t bar_words, size_t figure_words,
+                      size_t cell_count) {
+    poison();
+    got = pae_read((const uint8_t *)text, strlen(text), notes, note_words, bars, bar_words, figure,
+                   figure_words, cells, cell_count);
+}
+
+static void read_line(const char *text) {
+    read_lent(text, RECORDS * PAE_NOTE_WORDS, RECORDS * PAE_BAR_WORDS, RECORDS * PAE_NOTE_WORDS,
+              PAE_DIAGNOSTIC_CELLS);
+}
+
+static int counts(uint32_t note_count, uint32_t bar_count, uint32_t diagnostic_count) {
+    return got.number == PAE_ACCEPTED && got.place == 0 && got.notes == note_count &&
+           got.bars == bar_count && got.diagnostics == diagnostic_count;
+}
+
+static int refused(uint32_t number, uint32_t place) {
+    return got.number == number && got.place == place && got.notes == 0 && got.bars == 0 &&
+           got.diagnostics == 0;
+}
+
+static int32_t word(int note, int index) {
+    return notes[note * PAE_NOTE_WORDS + index];
+}
+
+static int32_t pitch(int note, int index) {
+    return word(note, PAE_NOTE_PITCHES + index);
+}
+
+/* Whether the words from `first` to `last` are all `value`. */
+static int are(const void *from, size_t first, size_t last, unsigned char value) {
+    const unsigned char *bytes = from;
+    size_t i;
+    for (i = first * sizeof(int32_t); i < last * sizeof(int32_t); i++)
+        if (bytes[i] != value)
+            return 0;
+    return 1;
+}
+
+/* Whether every lent cell is 0 behind the counted records, and no other cell was touched. */
+static int rest_is_clear(size_t note_words, size_t bar_words, size_t figure_words,
+                         size_t cell_count) {
+    size_t all_cells = (PAE_DIAGNOSTIC_CELLS + 1) * CELL_WORDS;
+    size_t lent_cells = cell_count * CELL_WORDS;
+    return are(notes, got.notes * PAE_NOTE_WORDS, note_words, 0) &&
+           are(notes, note_words, RECORDS * PAE_NOTE_WORDS, POISON) &&
+           are(bars, got.bars * PAE_BAR_WORDS, bar_words, 0) &&
+           are(bars, bar_words, RECORDS * PAE_BAR_WORDS, POISON) && are(figure, 0, figure_words, 0) &&
+           are(figure, figure_words, RECORDS * PAE_NOTE_WORDS, POISON) &&
+           are(cells, got.diagnostics * CELL_WORDS, lent_cells, 0) && are(cells, lent_cells, all_cells, POISON);
+}
+
+static int alterations(const int *expected, int count) {
+    int i;
+    for (i = 0; i < count; i++)
+        if (pitch(i, PAE_PITCH_ALTER) != expected[i])
+            return 0;
+    return 1;
+}
+
+static void accidentals(void) {
+    static const int held[] = {1, 0, 1, 0}, waiting[] = {1}, key[] = {1, 0, 0, 1};
+    read_line("xC''C'C/C");
+    CHECK(counts(4, 2, 0) && alterations(held, 4));
+    CHECK(word(2, PAE_NOTE_BAR) == 1 && word(3, PAE_NOTE_BAR) == 2);
+    read_line("x/C");
+    CHECK(counts(1, 1, 0) && alterations(waiting, 1));
+    read_line("$xF F nF F/F");
+    CHECK(counts(4, 2, 0) && alterations(key, 4));
+    CHECK(bars[PAE_BAR_KEY_SET] == 1 && bars[PAE_BAR_FIFTHS] == 1);
+}
+
+static void rhythm(void) {
+    read_line("8.6 C D E");
+    CHECK(counts(3, 1, 0));
+    CHECK(word(0, PAE_NOTE_DURATION) == PAE_DURATION_EIGHTH && word(0, PAE_NOTE_DOTS) == 1);
+    CHECK(word(1, PAE_NOTE_DURATION) == PAE_DURATION_16TH && word(1, PAE_NOTE_DOTS) == 0);
+    CHECK(word(2, PAE_NOTE_DURATION) == PAE_DURATION_EIGHTH && word(2, PAE_NOTE_DOTS) == 1);
+    read_line("86CqDE");
+    CHECK(counts(3, 1, 0));
+    CHECK(word(0, PAE_NOTE_KIND) == PAE_KIND_NOTE && word(0, PAE_NOTE_DURATION) == PAE_DURATION_EIGHTH);
+    CHECK(word(1, PAE_NOTE_KIND) == PAE_KIND_GRACE && word(1, PAE_NOTE_DURATION) == PAE_DURATION_16TH);
+    CHECK(word(2, PAE_NOTE_KIND) == PAE_KIND_NOTE && word(2, PAE_NOTE_DURATION) == PAE_DURATION_16TH);
+}
+
+static void chords_and_figures(void) {
+    read_line("4C^E-^G");
+    CHECK(counts(3, 1, 0));
+    CHECK(word(0, PAE_NOTE_PITCH_COUNT) == 2 && word(1, PAE_NOTE_KIND) == PAE_KIND_REST);
+    CHECK(pitch(0, PAE_PITCH_WORDS + PAE_PITCH_STEP) == 2 && pitch(2, PAE_PITCH_STEP) == 4);
+    read_line("!CD!f");
+    CHECK(counts(4, 1, 0));
+    CHECK(word(0, PAE_NOTE_PLACE) == 2 && word(1, PAE_NOTE_PLACE) == 3);
+    CHECK(word(2, PAE_NOTE_PLACE) == 5 && word(3, PAE_NOTE_PLACE) == 5);
+    CHECK(pitch(2, PAE_PITCH_PLACE) == 2 && pitch(3, PAE_PITCH_PLACE) == 3);
+}
+
+static int only_diagnostic(int32_t number, int32_t place) {
+    return cells[0].number == number && cells[0].place_kind == PAE_PLACE_DATA &&
+           cells[0].place == place;
+}
+
+static void diagnosed(void) {
+    read_line("C$xFF");
+    CHECK(counts(1, 1, 1) && only_diagnostic(PAE_D_MID_MEASURE_CHANGE, 2));
+    CHECK(cells[0].value_kind == PAE_VALUE_TEXT && cells[0].start == 2 && cells[0].end == 5);
+    read_line("''''''C");
+    CHECK(counts(1, 1, 0) && pitch(0, PAE_PITCH_OCTAVE) == 9);
+    read_line("'''''''C");
+    CHECK(counts(1, 1, 1) && only_diagnostic(PAE_D_UNSUPPORTED_OCTAVE, 1));
+    read_line("(CDEFG;5)");
+    CHECK(counts(5, 1, 0));
+    CHECK(word(4, PAE_NOTE_TUPLET_ACTUAL) == 5 && word(4, PAE_NOTE_TUPLET_NORMAL) == 4);
+    read_line("(CD;2)");
+    CHECK(counts(2, 1, 1) && only_diagnostic(PAE_D_SMALL_TUPLET, 6));
+    CHECK(cells[0].value_kind == PAE_VALUE_NUMBER && cells[0].start == 2);
+}
+
+static void refused_lines(void) {
+    size_t note_words = RECORDS * PAE_NOTE_WORDS, bar_words = RECORDS * PAE_BAR_WORDS;
+    read_line("@c:C");
+    CHECK(refused(PAE_REFUSED_NO_DATA, 0));
+    CHECK(rest_is_clear(note_words, bar_words, note_words, PAE_DIAGNOSTIC_CELLS));
+    read_line("C=");
+    CHECK(refused(PAE_REFUSED_MEASURE_REST, 2));
+    CHECK(rest_is_clear(note_words, bar_words, note_words, PAE_DIAGNOSTIC_CELLS));
+    read_line("!C!)/D\xc3\xa9");
+    CHECK(refused(PAE_REFUSED_NOT_ASCII, 0));
+    CHECK(rest_is_clear(note_words, bar_words, note_words, PAE_DIAGNOSTIC_CELLS));
+}
+
+static void nothing_lent(void) {
+    read_lent("C", 0, 0, 0, 0);
+    CHECK(refused(PAE_REFUSED_DIAGNOSTIC_CELLS, 0) && rest_is_clear(0, 0, 0, 0));
+    read_lent("", 0, 0, 0, PAE_DIAGNOSTIC_CELLS);
+    CHECK(refused(PAE_REFUSED_BLANK, 0) && rest_is_clear(0, 0, 0, PAE_DIAGNOSTIC_CELLS));
+    read_lent("C", 0, 0, 0, PAE_DIAGNOSTIC_CELLS);
+    CHECK(refused(PAE_REFUSED_NOTE_RECORDS, 1) && rest_is_clear(0, 0, 0, PAE_DIAGNOSTIC_CELLS));
+}
+
+static void parts_of_records_lent(void) {
+    size_t note_words = 2 * PAE_NOTE_WORDS - 1;
+    read_lent("C)", note_words, PAE_BAR_WORDS + 1, 0, PAE_DIAGNOSTIC_CELLS + 1);
+    CHECK(counts(1, 1, 1) && only_diagnostic(PAE_D_UNMATCHED_PAREN, 2));
+    CHECK(rest_is_clear(note_words, PAE_BAR_WORDS + 1, 0, PAE_DIAGNOSTIC_CELLS + 1));
+    read_lent("CD", note_words, PAE_BAR_WORDS, 0, PAE_DIAGNOSTIC_CELLS);
+    CHECK(refused(PAE_REFUSED_NOTE_RECORDS, 2));
+    CHECK(rest_is_clear(note_words, PAE_BAR_WORDS, 0, PAE_DIAGNOSTIC_CELLS));
+    read_lent("C ", note_words, PAE_BAR_WORDS - 1, 0, PAE_DIAGNOSTIC_CELLS);
+    CHECK(refused(PAE_REFUSED_BAR_RECORDS, 3));
+    CHECK(rest_is_clear(note_words, PAE_BAR_WORDS - 1, 0, PAE_DIAGNOSTIC_CELLS));
+    read_lent("!C!", note_words, PAE_BAR_WORDS, PAE_NOTE_WORDS - 1, PAE_DIAGNOSTIC_CELLS);
+    CHECK(refused(PAE_REFUSED_FIGURE_RECORDS, 3));
+    CHECK(rest_is_clear(note_words, PAE_BAR_WORDS, PAE_NOTE_WORDS - 1, PAE_DIAGNOSTIC_CELLS));
+}
+
+int main(void) {
+    accidentals();
+    rhythm();
+    chords_and_figures();
+    diagnosed();
+    refused_lines();
+    nothing_lent();
+    parts_of_records_lent();
+    puts(failures == 0 ? "smoke: all hold" : "smoke: failed");
+    return failures == 0 ? 0 : 1;
+}
