@@ -33,10 +33,11 @@ use Rattle.decode.specs.Decode.{figureIn, markingIn, tokenIn}
 use Rattle.steps.specs.State.{hasContent, openLength, repeatedCount}
 use Rattle.steps.specs.Notes.{lastField}
 use Rattle.steps.specs.Relation.{numberIn, countIn, Grouped, Stored}
+use Rattle.steps.proofs.CountLaws.{content, length-open, repeated-count}
 use Rattle.checks.specs.declared.Room.{Room}
 use Rattle.checks.specs.Checks.{failing, passing, storing, letterCheck, barCheck, figureCheck, groupCells, groupSize, fermataRecord, groupCheck, markingCheck, checkOf}
 use Rattle.checks.proofs.TestLaws.{and-second, fermata-some}
-use Rattle.checks.proofs.StoredLaws.{content, open-length, stored-count, full-agrees, marked-agrees, last-room, repeated-agrees, group-timed, fermata-agrees, fermata-room}
+use Rattle.checks.proofs.StoredLaws.{stored-count, full-agrees, marked-agrees, last-room, group-timed, fermata-agrees, fermata-room}
 
 -- the lent records, as the rules have them
 abbrev pub lentIn : Room → ℕ → Limits
@@ -59,7 +60,7 @@ number-two false false = refl
 
 -- 12, also at the end
 pub bars-agree : (room : Room) (diagnostics : ℕ) (s : State) {size : ℕ} {c : Counts} {l : List ℤ} → Stored size (s .openBar) (s .bars) c l → overBars (lentIn room diagnostics) s ≡ hasContent c && leb (room .bars) (c .bars)
-bars-agree room diagnostics s q = rw (content (s .openBar) q, q .bars)
+bars-agree room diagnostics s q = rw (← content (s .openBar) q, q .bars)
 
 module _ {size : ℕ} (st : Pae) {s : State} {l : List ℤ} {joined : Bool} (room : Room) (diagnostics : ℕ)
     (held : Stored size (s .openBar) (s .bars) (st .counts) l) (grouped : Grouped (st .groups) s) (figured : length (s .figure) ≡ st .figure) (joining : joined ≡ rules.joins s) where
@@ -81,7 +82,7 @@ module _ {size : ℕ} (st : Pae) {s : State} {l : List ℤ} {joined : Bool} (roo
       go false e = storing-agrees 1 1 (room .notes) refl
 
   mark-agrees : tokenRefusal (lentIn room diagnostics) (token.figure token.figureMark) s ≡ numberIn (figureCheck f.Mark st room)
-  mark-agrees = rw (grouped .figure, open-length (s .openBar) held) (go (st .groups .figure .noted))
+  mark-agrees = rw (grouped .figure, ← length-open held) (go (st .groups .figure .noted))
     where
       n : ℕ
       n = openLength (st .counts)
@@ -121,7 +122,7 @@ module _ {size : ℕ} (st : Pae) {s : State} {l : List ℤ} {joined : Bool} (roo
   figure-agrees : (figure : Figure) → tokenRefusal (lentIn room diagnostics) (token.figure (figureIn figure)) s ≡ numberIn (figureCheck figure st room)
   figure-agrees f.Mark = mark-agrees
   figure-agrees f.Repeat = storing-agrees (length (map (copied 0) (s .figure))) (st .figure) (room .notes) (length-map (s .figure) (copied 0) ∙ figured)
-  figure-agrees f.Bar = storing-agrees (length (map (copied 0) (repeatedBar (s .openBar) (s .bars)))) (repeatedCount (st .counts)) (room .notes) (length-map (repeatedBar (s .openBar) (s .bars)) (copied 0) ∙ repeated-agrees (s .openBar) (s .bars) held)
+  figure-agrees f.Bar = storing-agrees (length (map (copied 0) (repeatedBar (s .openBar) (s .bars)))) (repeatedCount (st .counts)) (room .notes) (length-map (repeatedBar (s .openBar) (s .bars)) (copied 0) ∙ sym (repeated-count (s .openBar) (s .bars) held))
 
   marking-agrees : (value : List ℕ) (marking : Marking) → tokenRefusal (lentIn room diagnostics) (token.marking (markingIn value marking)) s ≡ numberIn (markingCheck marking st l)
   marking-agrees value m.BeamOpen = refl

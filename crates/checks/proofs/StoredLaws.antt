@@ -3,31 +3,31 @@ use Prim.Native.Nat.{ℕ, suc, _+_, _-_, _*_, _<_, _≤_}
 use native.Mathlib.Omega.{arith}
 use native.Mathlib.Numerals.{add-one}
 use mathlib.Core.Path.{_≡_, refl, sym, ap, _∙_}
-use mathlib.Core.Bool.{Bool, true, false, cond, not, _&&_, false≢true}
+use mathlib.Core.Bool.{Bool, true, false, cond, _&&_, false≢true}
 use mathlib.Core.List.{List, [], _∷_, _++_, append-assoc}
-use lib.IntN.{ℤ, pos}
-use lib.ListN.{length, getD, drop, length-append, take-append-drop}
+use lib.IntN.{ℤ}
+use lib.ListN.{length, drop, length-append, take-append-drop}
 use lib.Dec.{leb}
-use borrow.Author.Tests.{lt-ltb, le-ltb, eq-eqb, ne-eqb, leb-true, leb-false}
+use borrow.Author.Tests.{leb-true, leb-false}
 use Rattle.rules.specs.Limits.{noteSize, pitchCapacity, markCapacity}
-use Rattle.rules.specs.Records.{isEmpty, Note, Bar, notesOf}
-use Rattle.rules.specs.Rules.{State, endsInNote, joins, isTimed, timedIn, notesFrom, repeatedBar}
+use Rattle.rules.specs.Records.{Note, Bar, notesOf}
+use Rattle.rules.specs.Rules.{endsInNote, isTimed, timedIn, notesFrom}
 use Rattle.rules.specs.Refusals as rules
 use Rattle.rules.specs.Refusals.{isFull, isMarkedFull}
 use Rattle.rules.specs.Words.{cells, zeros, noteWords}
-use Rattle.records.specs.Cells.{natural, recordAt}
+use Rattle.records.specs.Cells.{recordAt}
 use Rattle.records.specs.Notes.{numberAt, kindAt, markCountAt, marksAt, pitchCountAt, markLimit, HasRoom}
 use Rattle.records.specs.Groups.{timedAt, timedCount, lastTimed}
 use Rattle.records.proofs.CellLaws.{record-read, word-read}
 use Rattle.records.proofs.NoteLaws.{mark-fits, marks-fit}
 use Rattle.records.proofs.GroupLaws.{wordsIn, length-in, timed-none, last-more}
-use Rattle.records.proofs.StoredLaws.{storedIn, last-word, part-cells, part-timed, length-part}
-use Rattle.values.specs.declared.pae.Voice.{Voice}
+use Rattle.records.proofs.StoredLaws.{storedIn, part-cells, part-timed, length-part}
 use Rattle.values.specs.declared.pae.Counts.{Counts}
 use Rattle.values.specs.declared.pae.Groups.{Groups}
-use Rattle.steps.specs.State.{hasContent, openLength, repeatedCount}
-use Rattle.steps.specs.Notes.{lastField, endsOf, joinsOf}
-use Rattle.steps.specs.Relation.{Voiced, Stored}
+use Rattle.steps.specs.State.{hasContent}
+use Rattle.steps.specs.Notes.{lastField}
+use Rattle.steps.specs.Relation.{Stored}
+use Rattle.steps.proofs.CountLaws.{content, last-field}
 use Rattle.checks.specs.Checks.{groupCells, groupSize, fermataRecord}
 
 -- a record of fewer than 8 marks has room for one more
@@ -35,29 +35,8 @@ room-in : (b : ℕ) (n : Note) → numberAt markCountAt (wordsIn b n) < markCapa
 room-in b n h = let ms = n .notations .marks in (h, omega (arith, marks-fit ms, mark-fits true (length ms) h))
 
 module _ {size : ℕ} {bs : List Bar} {c : Counts} {l : List ℤ} where
-  -- ---- counts
-
-  pub content : (ns : List Note) → Stored size ns bs c l → not (isEmpty ns) ≡ hasContent c
-  content [] q = sym (le-ltb (c .first) (c .notes) (omega arith))
-  content (n ∷ ns) q = sym (lt-ltb (c .first) (c .notes) (omega arith))
-
-  pub open-length : (ns : List Note) → Stored size ns bs c l → length ns ≡ openLength c
-  open-length ns q = omega arith
-
   pub stored-count : (ns : List Note) → Stored size ns bs c l → length (ns ++ notesOf bs) ≡ c .notes
   stored-count ns q = rw length-append (sym (q .count))
-
-  -- ---- the last record
-
-  pub last-field : {n : Note} {ns : List Note} → Stored size (n ∷ ns) bs c l → (k : ℕ) → k < noteSize → lastField k c l ≡ numberAt k (wordsIn (suc (length bs)) n)
-  last-field {n} {ns} q k h =
-      let e : c .notes - 1 ≡ length ns + length (notesOf bs) = omega arith in
-      (λ i. natural (getD (q .written i) (e i * noteSize + k) (pos 0))) ∙ ap natural (last-word size ns bs n k h)
-
-  -- it is no rest
-  pub ends-agrees : (ns : List Note) → Stored size ns bs c l → endsInNote ns ≡ endsOf c l
-  ends-agrees [] q = rw (← content [] q)
-  ends-agrees (n ∷ ns) q = rw (← content (n ∷ ns) q, last-field q kindAt (omega arith))
 
   -- 9
   pub full-agrees : (ns : List Note) → Stored size ns bs c l → endsInNote ns ≡ true → isFull ns ≡ leb pitchCapacity (lastField pitchCountAt c l)
@@ -66,25 +45,13 @@ module _ {size : ℕ} {bs : List Bar} {c : Counts} {l : List ℤ} where
 
   -- 10 at `t`
   pub marked-agrees : (ns : List Note) → Stored size ns bs c l → isMarkedFull ns ≡ hasContent c && leb markCapacity (lastField markCountAt c l)
-  marked-agrees [] q = rw (← content [] q)
-  marked-agrees (n ∷ ns) q = rw (← content (n ∷ ns) q, last-field q markCountAt (omega arith))
+  marked-agrees [] q = rw (content [] q)
+  marked-agrees (n ∷ ns) q = rw (content (n ∷ ns) q, last-field q markCountAt (omega arith))
 
   -- one more mark fits
   pub last-room : (ns : List Note) → Stored size ns bs c l → hasContent c ≡ true → lastField markCountAt c l < markCapacity → lastField marksAt c l < markLimit
-  last-room [] q e h = absurd (false≢true (content [] q ∙ e))
+  last-room [] q e h = absurd (false≢true (sym (content [] q) ∙ e))
   last-room (n ∷ ns) q e h = rw (last-field q marksAt (omega arith)) (room-in (suc (length bs)) n (rw (last-field q markCountAt (omega arith)) at h) .1)
-
--- whether a letter joins
-pub joins-agrees : {v : Voice} {s : State} {size : ℕ} {c : Counts} {l : List ℤ} → Voiced v s → Stored size (s .openBar) (s .bars) c l → joins s ≡ joinsOf v c l
-joins-agrees {s = s} voiced q = rw (voiced .chord, ends-agrees (s .openBar) q)
-
--- how many records `i` copies
-pub repeated-agrees : {size : ℕ} {c : Counts} {l : List ℤ} (ns : List Note) (bs : List Bar) → Stored size ns bs c l → length (repeatedBar ns bs) ≡ repeatedCount c
-repeated-agrees {c = c} (n ∷ ns) bs q = rw (← content (n ∷ ns) q)
-repeated-agrees {c = c} [] [] q = rw (← content [] q, eq-eqb (c .bars) 0 (q .bars))
-repeated-agrees {c = c} [] (b ∷ bs) q =
-    let e = length-append (b .notes) (notesOf bs) in
-    rw (← content [] q, ne-eqb (c .bars) 0 (λ z. omega arith)) (omega (arith, q .first, q .last))
 
 -- ---- the record that gets a fermata
 

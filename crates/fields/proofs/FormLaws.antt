@@ -2,7 +2,7 @@
 use Prim.Native.Nat.{ℕ}
 use native.Mathlib.Omega.{arith}
 use mathlib.Core.Path.{_≡_, sym, ap}
-use mathlib.Core.Bool.{true, false}
+use mathlib.Core.Bool.{true, false, false≢true}
 use mathlib.Core.Option.{some}
 use mathlib.Core.List.{List}
 use lib.IntN.{ℤ}
@@ -29,7 +29,7 @@ module _ (text : List ℕ) (size : ℕ) where
 
   pub bare-form : inFieldForm text ≡ false → Formed (bareFields (length text)) (zeros size)
   unfolding fieldsOf fieldsDiagnosed
-  bare-form e = rw e (record { attributes = none-attributed; dataValue = ap (λ (xs : List ℕ). some (whole xs)) (sym (part-to-end text 0)); order = omega arith; within = omega arith }, none-diagnosed size)
+  bare-form e = rw e (record { attributes = none-attributed; dataValue = ap (λ (xs : List ℕ). some (whole xs)) (sym (part-to-end text 0)); order = omega arith; within = omega arith; absent = λ q. absurd (false≢true (sym q)) }, none-diagnosed size)
     where
       whole : List ℕ → Part
       whole xs = record { start = 0; bytes = xs }

@@ -85,10 +85,10 @@ module _ (text : List ℕ) {k : lines.Fields} {s : Fields} (w : Taken text k s) 
       }
 
       by : (key : FieldKey) → Taken text (with-key key) (fieldSet key (f .value) s)
-      by Clef = record { attributes = clef-taken (w .attributes) xs; dataValue = w .dataValue; order = w .order; within = w .within }
-      by Keysig = record { attributes = key-taken (w .attributes) xs; dataValue = w .dataValue; order = w .order; within = w .within }
-      by Timesig = record { attributes = meter-taken (w .attributes) xs; dataValue = w .dataValue; order = w .order; within = w .within }
-      by Data = record { attributes = w .attributes; dataValue = sym (ap some (inside .part)); order = omega arith; within = inside .within }
+      by Clef = record { attributes = clef-taken (w .attributes) xs; dataValue = w .dataValue; order = w .order; within = w .within; absent = w .absent }
+      by Keysig = record { attributes = key-taken (w .attributes) xs; dataValue = w .dataValue; order = w .order; within = w .within; absent = w .absent }
+      by Timesig = record { attributes = meter-taken (w .attributes) xs; dataValue = w .dataValue; order = w .order; within = w .within; absent = w .absent }
+      by Data = record { attributes = w .attributes; dataValue = sym (ap some (inside .part)); order = omega arith; within = inside .within; absent = λ q. absurd (false≢true (sym q)) }
       by Other = w
 
 -- ---- a line
@@ -99,7 +99,7 @@ module _ (text : List ℕ) (n start end : ℕ) (order : start ≤ end) (within :
 
   pub taken-line : (before : List Line) {s : Fields} → Taken text (fieldsAfter before) s → Taken text (fieldsAfter (line ∷ before)) (lineNext line s)
   unfolding fieldsAfter lineNext
-  taken-line before {s} w = let v = go (isField (line .content .bytes)) refl in record { attributes = v .attributes; dataValue = v .dataValue; order = v .order; within = v .within }
+  taken-line before {s} w = let v = go (isField (line .content .bytes)) refl in record { attributes = v .attributes; dataValue = v .dataValue; order = v .order; within = v .within; absent = v .absent }
     where
       Next : Option Field → Type 0
       Next o = Taken text (given o (fieldsAfter before) (λ f. fieldNext f (fieldsAfter before))) (given o s (λ f. fieldSet (fieldKeyOf (f .key)) (f .value) s))

@@ -115,6 +115,7 @@ module _ (text : List ℕ) where
       dataValue = refl;
       order = omega arith;
       within = omega arith;
+      absent = λ q. (refl, refl);
     };
     diagnosed = none-diagnosed size;
   }

@@ -1,7 +1,7 @@
 -- How the program's fields stand to the rules'. Assumes nothing.
 use Prim.Native.Nat.{ℕ, _≤_}
 use mathlib.Core.Path.{_≡_}
-use mathlib.Core.Bool.{cond}
+use mathlib.Core.Bool.{false, cond}
 use mathlib.Core.Option.{Option, none, some}
 use mathlib.Core.List.{List}
 use lib.ListN.{length}
@@ -16,9 +16,10 @@ use Rattle.fields.specs.declared.Fields.{Fields}
 abbrev pub dataIn : List ℕ → Fields → Option Part
 dataIn text s = cond (s .present) (some (partAt text (s .start) (s .end))) none
 
--- the attributes that the data starts with, and the data value
+-- the attributes that the data starts with, and the data value; without one both offsets are 0
 pub record Taken (text : List ℕ) (k : rules.Fields) (s : Fields) : Type 0 where
   pub attributes : Attributed (s .attributes) (fresh (k .attributes))
   pub dataValue : k .dataValue ≡ dataIn text s
   pub order : s .start ≤ s .end
   pub within : s .end ≤ length text
+  pub absent : s .present ≡ false → (s .start ≡ 0) × (s .end ≡ 0)

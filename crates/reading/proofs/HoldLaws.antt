@@ -38,11 +38,10 @@ use Rattle.steps.specs.Accidentals.{Table}
 use Rattle.steps.specs.Notes.{endsOf, joinsOf}
 use Rattle.steps.specs.Steps.{countsNext, figureNext, tableNext, stepped}
 use Rattle.steps.specs.Relation.{numberIn, countIn, Stored}
+use Rattle.steps.proofs.CountLaws.{length-open, content, first-below, last-below, length-notes, ends-agree, joins-agree}
 use Rattle.simulation.proofs.Choices.{pick}
 use Rattle.simulation.proofs.Items.{itemIn, item-decoded}
-use Rattle.simulation.proofs.CountLaws.{open-length, has-content, ends-agree, joins-agree}
 use Rattle.storing.proofs.FigureLaws.{figure-count, figure-fits}
-use Rattle.storing.proofs.ReadLaws.{first-below, last-below, length-notes}
 use Rattle.checks.specs.declared.Room.{Room}
 use Rattle.checks.specs.Checks.{checkOf}
 use Rattle.checks.proofs.TestLaws.{joins-some}
@@ -327,7 +326,7 @@ module _ (data′ : List ℕ) (start : ℕ) (k : rules.Attributes) (count₀ : �
 
           found-is : tokenFound token (valueFrom data′ at end) st (endsOf (st .counts) notes) closing (itemFrom data′ start at end token) ≡ tokenDiagnosed item s (item .token)
           found-is = remarks-agree st s (endsOf (st .counts) notes) closing (valueFrom data′ at end) (itemFrom data′ start at end token) (w .related .voice) (w .related .groups)
-              (has-content (s .openBar) (w .related .stored)) (open-length (w .related .stored)) (ap (λ (n : ℕ). eqb n 0) (figure-count (w .related .figured)) ∙ no-elements (s .figure))
+              (content (s .openBar) (w .related .stored)) (length-open (w .related .stored)) (ap (λ (n : ℕ). eqb n 0) (figure-count (w .related .figured)) ∙ no-elements (s .figure))
               (ap (λ (n : ℕ). eqb n 0) (w .related .stored .bars) ∙ no-elements (s .bars)) (ends-agree (s .openBar) (w .related .stored)) (getD data′ at 0) token closes
 
           pub goes-on : length (barsNext token st bars) ≡ length bars → length (heldNext token st notes held) ≡ length held → length (cellsAfterAll scratch (st .diagnostics) found) ≡ length scratch

@@ -24,11 +24,11 @@ use Rattle.steps.specs.Steps.{countsNext, figureNext, tableNext, stepped}
 use Rattle.steps.specs.Relation.{Voiced, Attributed, Grouped, Tabled, Stored, Barred, Figured}
 use Rattle.steps.proofs.TableLaws.{tabled-same, tabled-clear, tabled-letter, alter-agrees}
 use Rattle.steps.proofs.BarLaws.{bars-closed}
+use Rattle.steps.proofs.CountLaws.{length-open, open-empty, ends-agree, joins-agree}
 use Rattle.simulation.proofs.Items.{itemIn}
 use Rattle.simulation.proofs.VoiceLaws.{voice-agrees}
 use Rattle.simulation.proofs.AttributeLaws.{attributes-agree}
 use Rattle.simulation.proofs.GroupsLaws.{groups-agree}
-use Rattle.simulation.proofs.CountLaws.{open-length, open-empty, ends-agree, joins-agree}
 use Rattle.storing.proofs.StepLaws as storing
 use Rattle.reading.specs.Cells.{notesNext, barsNext, heldNext}
 
@@ -193,7 +193,7 @@ module _ (place offset width b : ℕ) (value : List ℕ) {size barsSize : ℕ} {
   token-related token h q = record {
     voice = voice-agrees place offset width b value (w .voice) token joined (endsOf (st .counts) notes) h rules-join (sym (ends-agree (s .openBar) (w .stored)));
     attributes = attributes-agree place offset width b value st (w .attributes) (open-empty (s .openBar) (w .stored)) token;
-    groups = groups-agree place offset width b value (w .groups) (openLength (st .counts)) (open-length (w .stored)) token;
+    groups = groups-agree place offset width b value (w .groups) (openLength (st .counts)) (length-open (w .stored)) token;
     tabled = tabled-agrees token h;
     stored = stored-agrees token h q;
     barred = barred-agrees token q;

@@ -85,23 +85,20 @@ copied-note : (place bar : ℕ) (r : Numbered) → copyOf place bar (noteWords r
 unfolding copyOf
 copied-note place bar r = refl
 
--- the copy of a record
-abbrev copyIn : ℕ → ℕ → Numbered → Numbered
-copyIn place bar r = record { bar = bar; note = copied place (r .note) }
-
-copies-cells : (place bar : ℕ) (l zs : List ℤ) (p q : List Numbered) → l ≡ cells noteWords (p ++ q) ++ zs → copies place bar l (length q) ≡ cells noteWords (map (copyIn place bar) q)
+-- copies of stored records are the rules' copies in the open bar
+pub copies-records : (place bar : ℕ) (l zs : List ℤ) (p q : List Numbered) → l ≡ cells noteWords (p ++ q) ++ zs → copies place bar l (length q) ≡ cells noteWords (inBar bar (map (copied place) (map (λ r. r .note) q)))
 unfolding copies
-copies-cells place bar l zs p [] e = refl
-copies-cells place bar l zs p (x ∷ q) e =
-    let m = copies-cells place bar l zs (p ++ x ∷ []) q (rw append-assoc e) in
+copies-records place bar l zs p [] e = refl
+copies-records place bar l zs p (x ∷ q) e =
+    let m = copies-records place bar l zs (p ++ x ∷ []) q (rw append-assoc e) in
     let r : recordAt noteSize l (length q) ≡ noteWords x = rw e (record-read noteWords noteSize length-note p x q zs) in
     rw (m, r, copied-note)
 
--- copies of a bar's notes are the rules' copies in the open bar
+-- and so are those of a bar's notes
 pub copies-notes : (place bar c : ℕ) (ns : List Note) (zs : List ℤ) → copies place bar (cells noteWords (inBar c ns) ++ zs) (length ns) ≡ cells noteWords (inBar bar (map (copied place) ns))
 copies-notes place bar c ns zs =
-    rw (← length-map {B = Numbered} ns (λ n. record { bar = c; note = n })) (copies-cells place bar (cells noteWords (inBar c ns) ++ zs) zs [] (inBar c ns) refl ∙ ap (cells noteWords) (go ns))
+    rw (← length-map {B = Numbered} ns (λ n. record { bar = c; note = n })) (copies-records place bar (cells noteWords (inBar c ns) ++ zs) zs [] (inBar c ns) refl ∙ ap (λ (l : List Note). cells noteWords (inBar bar (map (copied place) l))) (go ns))
   where
-    go : (ns : List Note) → map (copyIn place bar) (inBar c ns) ≡ inBar bar (map (copied place) ns)
+    go : (ns : List Note) → map (λ r. r .note) (inBar c ns) ≡ ns
     go [] = refl
-    go (n ∷ ns) = ap (λ (l : List Numbered). record { bar = bar; note = copied place n } ∷ l) (go ns)
+    go (n ∷ ns) = ap (λ (l : List Note). n ∷ l) (go ns)

@@ -5,4 +5,3 @@ pub mod VoiceLaws
 pub mod AttributeLaws
 pub mod GroupsLaws
 pub mod RhythmLaws
-pub mod CountLaws

@@ -2,3 +2,4 @@
 pub mod TableLaws
 pub mod StoredBar
 pub mod BarLaws
+pub mod CountLaws

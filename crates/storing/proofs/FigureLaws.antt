@@ -6,21 +6,20 @@ use mathlib.Core.Path.{_≡_, refl, sym, ap, _∙_}
 use mathlib.Core.List.{List, [], _∷_, _++_, map, append-assoc, map-append}
 use lib.IntN.{ℤ}
 use lib.ListN.{length, take, drop, length-append, length-map}
-use borrow.Author.Tests.{eq-eqb, ne-eqb}
 use Rattle.rules.specs.Limits.{noteSize, noteLimit}
-use Rattle.rules.specs.Records.{Note, Bar, notesOf}
+use Rattle.rules.specs.Records.{Note, Bar}
 use Rattle.rules.specs.Rules.{copied, repeatedBar, notesFrom}
-use Rattle.rules.specs.Words.{Numbered, cells, padded, noteWords, inBar}
+use Rattle.rules.specs.Words.{cells, padded, noteWords, inBar}
 use Rattle.values.specs.declared.pae.Counts.{Counts}
-use Rattle.records.specs.Cells.{written, recordAt}
-use Rattle.records.specs.Copies.{copyOf, copies}
-use Rattle.records.proofs.CellLaws.{length-cells, record-read, padded-extended}
+use Rattle.records.specs.Cells.{written}
+use Rattle.records.specs.Copies.{copies}
+use Rattle.records.proofs.CellLaws.{length-cells, padded-extended}
 use Rattle.records.proofs.NoteLaws.{length-note}
-use Rattle.records.proofs.CopyLaws.{written-front, copies-none}
+use Rattle.records.proofs.CopyLaws.{written-front, copies-none, copies-records}
 use Rattle.records.proofs.StoredLaws as records
 use Rattle.steps.specs.State.{openLength, counted, repeatedCount}
 use Rattle.steps.specs.Relation.{recordsIn, notesIn, Stored, Figured}
-use Rattle.storing.proofs.ReadLaws.{content, length-open}
+use Rattle.steps.proofs.CountLaws.{length-open, repeated-count}
 
 -- ---- the figure
 
@@ -51,25 +50,6 @@ pub figure-fits : {figure : List Note} {n : ℕ} {held : List ℤ} → Figured f
 figure-fits f = rw (f .written, length-append, length-cells noteWords noteSize length-note (f .records), f .counted) (omega arith)
 
 -- ---- copies
-
--- 'Copies lose ties and get the `f` or `i` place; pitch places stay'
-copied-words : (place bar : ℕ) (x : Numbered) → copyOf place bar (noteWords x) ≡ noteWords (record { bar = bar; note = copied place (x .note) })
-unfolding copyOf
-copied-words place bar x = refl
-
-copies-records : (place bar : ℕ) (l rest : List ℤ) (p q : List Numbered) → l ≡ cells noteWords (p ++ q) ++ rest → copies place bar l (length q) ≡ cells noteWords (inBar bar (map (copied place) (notesIn q)))
-unfolding copies
-copies-records place bar l rest p [] e = refl
-copies-records place bar l rest p (x ∷ q) e =
-    let m = copies-records place bar l rest (p ++ x ∷ []) q (rw append-assoc e) in
-    let r : recordAt noteSize l (length q) ≡ noteWords x = rw e (record-read noteWords noteSize length-note p x q rest) in
-    rw (m, r, copied-words)
-
--- 'in an empty bar after a stored one': how many records that bar has
-pub repeated-count : {size : ℕ} {c : Counts} {notes : List ℤ} (o : List Note) (bs : List Bar) → Stored size o bs c notes → repeatedCount c ≡ length (repeatedBar o bs)
-repeated-count (x ∷ o) bs r = rw (content (x ∷ o) r)
-repeated-count {c = c} [] [] r = rw (content [] r, eq-eqb (c .bars) 0 (r .bars))
-repeated-count {c = c} [] (b ∷ bs) r = rw (content [] r, ne-eqb (c .bars) 0 (λ z. omega (arith, r .bars))) (omega (arith, r .first, r .last, length-append (b .notes) (notesOf bs)))
 
 module _ {size : ℕ} {c : Counts} {notes : List ℤ} where
   -- records appended

@@ -24,7 +24,7 @@ use Rattle.records.proofs.StoredLaws.{part-timed}
 use Rattle.records.proofs.MarkingLaws as records
 use Rattle.steps.specs.State.{openLength}
 use Rattle.steps.specs.Relation.{Stored}
-use Rattle.storing.proofs.ReadLaws.{length-open}
+use Rattle.steps.proofs.CountLaws.{length-open}
 use Rattle.storing.proofs.NotesLaws.{renotated-stored}
 
 -- a start beyond the bar's length

@@ -1,5 +1,4 @@
 -- The lent notes and the figure after each kind of token.
-pub mod ReadLaws
 pub mod NotesLaws
 pub mod FigureLaws
 pub mod GroupsOpenLaws

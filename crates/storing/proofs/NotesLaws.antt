@@ -25,7 +25,7 @@ use Rattle.records.proofs.MarkingLaws.{tie-open, trill-open}
 use Rattle.steps.specs.State.{hasContent, counted}
 use Rattle.steps.specs.Notes.{lastField, endsOf, headingIn, pitchIn, joinedCells, openedCells, restCells, tiedCells, trilledCells}
 use Rattle.steps.specs.Relation.{recordsIn, Stored}
-use Rattle.storing.proofs.ReadLaws.{content, last-number, last-pitches, ends}
+use Rattle.steps.proofs.CountLaws.{content, last-number, last-pitches, ends-agree}
 
 -- ---- records that change and are counted the same
 
@@ -105,8 +105,8 @@ module _ {size : ℕ} {bs : List Bar} {c : Counts} {notes : List ℤ} where
             subst (λ (l : List Note). Stored size l bs c (tiedCells c notes)) (sym (tie-open s x o e h)) (last-replaced r words.tieStarted (renoted (withTieStart (x .notations)) x) (tie-started-note (record { bar = suc (length bs); note = x })))
 
         go : (b : Bool) → endsInNote (s .openBar) ≡ b → Stored size (renotated (marked tie s) 0 (s .openBar)) bs c (cond (endsOf c notes) (tiedCells c notes) notes)
-        go true e = rw (ends (s .openBar) r ∙ e) (last (s .openBar) refl e r)
-        go false e = rw (ends (s .openBar) r ∙ e) (kept r (marked tie s) (λ i n. rw (e, and-false (eqb i 0))))
+        go true e = rw (ends-agree (s .openBar) r ∙ e) (last (s .openBar) refl e r)
+        go false e = rw (ends-agree (s .openBar) r ∙ e) (kept r (marked tie s) (λ i n. rw (e, and-false (eqb i 0))))
 
     -- '`t` marks the bar's last record, rests too'
     pub trilled : Stored size (renotated (marked trill s) 0 (s .openBar)) bs c (cond (hasContent c) (trilledCells c notes) notes)

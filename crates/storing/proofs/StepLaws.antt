@@ -27,7 +27,7 @@ use Rattle.records.proofs.CellLaws.{padded-none}
 use Rattle.steps.specs.State.{hasContent, openLength, counted, barCounted, repeatedCount, figureClosed}
 use Rattle.steps.specs.Notes.{lastField, endsOf, joinsOf, pitchIn, joinedCells, openedCells, restCells, tiedCells, trilledCells, closedCells}
 use Rattle.steps.specs.Relation.{countIn, Voiced, Grouped, Stored, Figured}
-use Rattle.storing.proofs.ReadLaws.{length-open, content, ends}
+use Rattle.steps.proofs.CountLaws.{length-open, content, ends-agree}
 use Rattle.storing.proofs.NotesLaws.{opened, rested, joined, renotated-same, kept, untouched, tied, trilled}
 use Rattle.storing.proofs.FigureLaws.{figure-closed, figure-repeated, bar-repeated}
 use Rattle.storing.proofs.GroupsOpenLaws.{beam-closed, beam-beyond, closing-read, nothing-closed, few-closed, fermata-closed, tuplet-closed}
@@ -105,7 +105,7 @@ module _ {size : ℕ} {c : Counts} {notes : List ℤ} (place offset width : ℕ)
       → (joinsOf v c notes ≡ true → lastField pitchCountAt c notes < pitchCapacity) → (joinsOf v c notes ≡ false → ((c .notes + 1) * noteSize ≤ size) × (c .notes + 1 ≤ noteLimit))
       → After (letter name) (cond (joinsOf v c notes) c (counted 1 c)) (cond (joinsOf v c notes) (joinedCells c v name alter place notes) (openedCells c v value name alter place notes))
   unfolding step
-  letter-stored {v} w name value alter e a full fits = go (joins s) refl (λ i. sym (w .chord) i && ends (s .openBar) r i)
+  letter-stored {v} w name value alter e a full fits = go (joins s) refl (λ i. sym (w .chord) i && ends-agree (s .openBar) r i)
     where
       pitch : pitchOf s place name ≡ pitchIn v name alter place
       pitch = λ i. record { place = place; step = name; octave = w .octave i; alter = a i }

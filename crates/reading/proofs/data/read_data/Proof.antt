@@ -8,7 +8,7 @@ use Rattle.values.specs.declared.pae.Pae.{Pae}
 use Rattle.values.specs.declared.rhythm.Value.{Value}
 use Rattle.values.proofs.PatternLaws.{ready}
 use Rattle.decode.specs.Decode.{Fine}
-use Rattle.storing.proofs.ReadLaws.{first-below, last-below, length-notes}
+use Rattle.steps.proofs.CountLaws.{first-below, last-below, length-notes}
 use Rattle.checks.specs.Checks.{checkOf}
 use Rattle.reading.specs.Cells.{notesNext}
 use Rattle.reading.specs.Data.{attributesIn, DataRead}

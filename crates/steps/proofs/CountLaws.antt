@@ -1,25 +1,26 @@
 -- What the program reads in its counts and in the lent notes is what the rules read in the open bar (01, 'The lent records'). Assumes nothing.
 use Prim.Native.Nat.{ℕ, suc, _+_, _-_, _<_, _≤_}
 use native.Mathlib.Omega.{arith}
-use mathlib.Core.Path.{_≡_}
-use mathlib.Core.Bool.{not}
+use mathlib.Core.Path.{_≡_, sym}
+use mathlib.Core.Bool.{not, _&&_}
 use mathlib.Core.List.{List, [], _∷_}
 use lib.IntN.{ℤ}
 use lib.ListN.{length, length-append, length-replicate}
-use borrow.Author.Tests.{lt-ltb, le-ltb}
+use borrow.Author.Tests.{lt-ltb, le-ltb, eq-eqb, ne-eqb}
 use Rattle.rules.specs.Limits.{noteSize}
 use Rattle.rules.specs.Records.{Note, Bar, isEmpty, notesOf}
-use Rattle.rules.specs.Rules.{endsInNote}
+use Rattle.rules.specs.Rules.{State, endsInNote, joins, repeatedBar}
 use Rattle.rules.specs.Words.{noteWords}
+use Rattle.values.specs.declared.pae.Voice.{Voice}
 use Rattle.values.specs.declared.pae.Counts.{Counts}
 use Rattle.records.specs.Notes.{kindAt, pitchCountAt, numberAt}
 use Rattle.records.proofs.CellLaws.{length-cells}
 use Rattle.records.proofs.NoteLaws.{length-note}
 use Rattle.records.proofs.GroupLaws.{wordsIn}
 use Rattle.records.proofs.StoredLaws.{length-stored, last-word}
-use Rattle.steps.specs.State.{hasContent, openLength}
-use Rattle.steps.specs.Notes.{lastField, endsOf}
-use Rattle.steps.specs.Relation.{lastFirst, recordsIn, Stored}
+use Rattle.steps.specs.State.{hasContent, openLength, repeatedCount}
+use Rattle.steps.specs.Notes.{lastField, endsOf, joinsOf}
+use Rattle.steps.specs.Relation.{lastFirst, recordsIn, Voiced, Stored}
 
 last-first : (bs : List Bar) → lastFirst bs ≤ length (notesOf bs)
 last-first [] = omega arith
@@ -46,6 +47,17 @@ pub content : {size : ℕ} {bs : List Bar} {c : Counts} {notes : List ℤ} (o : 
 content {size} {bs} {c} {notes} [] r = le-ltb (c .first) (c .notes) (omega (arith, r .count, r .first))
 content {size} {bs} {c} {notes} (x ∷ o) r = lt-ltb (c .first) (c .notes) (omega (arith, r .count, r .first))
 
+-- it has none
+pub open-empty : {size : ℕ} {bs : List Bar} {c : Counts} {notes : List ℤ} (o : List Note) → Stored size o bs c notes → isEmpty o ≡ not (hasContent c)
+open-empty [] r = rw (content [] r)
+open-empty (x ∷ o) r = rw (content (x ∷ o) r)
+
+-- 'in an empty bar after a stored one': how many records that bar has
+pub repeated-count : {size : ℕ} {c : Counts} {notes : List ℤ} (o : List Note) (bs : List Bar) → Stored size o bs c notes → repeatedCount c ≡ length (repeatedBar o bs)
+repeated-count (x ∷ o) bs r = rw (content (x ∷ o) r)
+repeated-count {c = c} [] [] r = rw (content [] r, eq-eqb (c .bars) 0 (r .bars))
+repeated-count {c = c} [] (b ∷ bs) r = rw (content [] r, ne-eqb (c .bars) 0 (λ z. omega (arith, r .bars))) (omega (arith, r .first, r .last, length-append (b .notes) (notesOf bs)))
+
 -- ---- the last record
 
 module _ {size : ℕ} {x : Note} {o : List Note} {bs : List Bar} {c : Counts} {notes : List ℤ} (r : Stored size (x ∷ o) bs c notes) where
@@ -62,6 +74,10 @@ module _ {size : ℕ} {x : Note} {o : List Note} {bs : List Bar} {c : Counts} {n
   last-pitches = last-field pitchCountAt (omega arith)
 
 -- there is a last record and it is no rest
-pub ends : {size : ℕ} {bs : List Bar} {c : Counts} {notes : List ℤ} (o : List Note) → Stored size o bs c notes → endsOf c notes ≡ endsInNote o
-ends [] r = rw (content [] r)
-ends (x ∷ o) r = rw (content (x ∷ o) r, last-kind r)
+pub ends-agree : {size : ℕ} {bs : List Bar} {c : Counts} {notes : List ℤ} (o : List Note) → Stored size o bs c notes → endsOf c notes ≡ endsInNote o
+ends-agree [] r = rw (content [] r)
+ends-agree (x ∷ o) r = rw (content (x ∷ o) r, last-kind r)
+
+-- a letter joins it
+pub joins-agree : {size : ℕ} {v : Voice} {s : State} {c : Counts} {notes : List ℤ} → Voiced v s → Stored size (s .openBar) (s .bars) c notes → joinsOf v c notes ≡ joins s
+joins-agree {s = s} v r = λ i. sym (v .chord) i && ends-agree (s .openBar) r i
