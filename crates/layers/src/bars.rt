@@ -102,7 +102,7 @@ fn show_bar(bars: &[i32], number: u32) {
 }
 
 // The fourth layer.
-pub fn show_bars(bars: &[i32], count: u32) {
+pub(crate) fn show_bars(bars: &[i32], count: u32) {
     say_heading(b"4. The bars (-: nothing set here)");
     say_row(b"   bar  notes       clef         key       meter      left          right");
     let mut number: u32 = 0;

@@ -10,21 +10,21 @@ use records::cells::natural;
 use show::word_at;
 
 // Where a pitch's words stand.
-pub const PITCH_STEP: usize = 1;
+pub(crate) const PITCH_STEP: usize = 1;
 
-pub const PITCH_OCTAVE: usize = 2;
+pub(crate) const PITCH_OCTAVE: usize = 2;
 
-pub const PITCH_ALTER: usize = 3;
+pub(crate) const PITCH_ALTER: usize = 3;
 
 // A word of note record `number`, from 0.
-pub fn note_word(notes: &[i32], number: u32, at: usize) -> u32
+pub(crate) fn note_word(notes: &[i32], number: u32, at: usize) -> u32
     requires { ⌜ at < noteSize ⌝ }
 {
     natural(word_at(notes, number as usize * NOTE + at))
 }
 
 // A word of pitch `which` of note record `number`; the alteration may be below 0.
-pub fn pitch_word(notes: &[i32], number: u32, which: u32, at: usize) -> i32
+pub(crate) fn pitch_word(notes: &[i32], number: u32, which: u32, at: usize) -> i32
     requires { ⌜ at < 4 ⌝ }
 {
     let start = number as usize * NOTE + FIRST_PITCH;
@@ -32,14 +32,14 @@ pub fn pitch_word(notes: &[i32], number: u32, which: u32, at: usize) -> i32
 }
 
 // A word of bar record `number`; the fifths may be below 0.
-pub fn bar_word(bars: &[i32], number: u32, at: usize) -> i32
+pub(crate) fn bar_word(bars: &[i32], number: u32, at: usize) -> i32
     requires { ⌜ at < barSize ⌝ }
 {
     word_at(bars, number as usize * BAR + at)
 }
 
 // A word of diagnostic `number`.
-pub fn diagnostic_word(diagnostics: &[i32], number: u32, at: usize) -> u32
+pub(crate) fn diagnostic_word(diagnostics: &[i32], number: u32, at: usize) -> u32
     requires { ⌜ at < diagnosticSize ⌝ }
 {
     natural(word_at(diagnostics, number as usize * DIAGNOSTIC + at))

@@ -115,7 +115,7 @@ fn show_ruler(start: usize, end: usize) {
 // ---- the data
 
 // What came of the text: how many diagnostics there are, or a refusal, not 0, with its place.
-pub struct Outcome {
+pub(crate) struct Outcome {
     pub diagnostics: u32,
     pub refusal: u32,
     pub place: u32,
@@ -228,7 +228,7 @@ fn show_lines(text: &[u8], data: usize, diagnostics: &[i32], count: u32) -> usiz
 }
 
 // The first layer; the number of the last keysig field's line, 0 where there is none.
-pub fn show_text(
+pub(crate) fn show_text(
     text: &[u8],
     data: &[u8],
     start: usize,

@@ -18,7 +18,13 @@ fn set_stored(stored: &mut [u32], k: usize, number: u32) {
 }
 
 // Enters each record at the mark whose place it has. Both stand in order.
-pub fn enter_stored(stored: &mut [u32], ends: &[usize], marks: usize, notes: &[i32], count: u32) {
+pub(crate) fn enter_stored(
+    stored: &mut [u32],
+    ends: &[usize],
+    marks: usize,
+    notes: &[i32],
+    count: u32,
+) {
     let mut k = 0;
     let mut number: u32 = 0;
     while k < marks {
@@ -36,7 +42,7 @@ pub fn enter_stored(stored: &mut [u32], ends: &[usize], marks: usize, notes: &[i
 }
 
 // One more than the number of the last record that a mark stored, 0 where it stored none.
-pub fn stored_at(stored: &[u32], k: usize) -> u32 {
+pub(crate) fn stored_at(stored: &[u32], k: usize) -> u32 {
     if k < stored.len() {
         return stored[k];
     }
@@ -46,7 +52,7 @@ pub fn stored_at(stored: &[u32], k: usize) -> u32 {
 // ---- looking back
 
 // What is sought, or where the search stops.
-pub enum Sought {
+pub(crate) enum Sought {
     Nothing,
     // an octave in range
     Octave,
@@ -162,7 +168,7 @@ fn is_sought(sought: Sought, token: Token, storing: bool) -> bool {
 }
 
 // The latest mark up to `from` that is sought, since the last one that stops the search.
-pub fn latest(
+pub(crate) fn latest(
     data: &[u8],
     ends: &[usize],
     stored: &[u32],
@@ -190,7 +196,7 @@ pub fn latest(
 // ---- octave and alteration
 
 // The octave that a mark sets; at the start, 4.
-pub fn octave_at(data: &[u8], ends: &[usize], k: usize) -> u8 {
+pub(crate) fn octave_at(data: &[u8], ends: &[usize], k: usize) -> u8 {
     let token = token_at(data, ends, k);
     match token {
         Token::Octave(o) => match o {
@@ -202,7 +208,7 @@ pub fn octave_at(data: &[u8], ends: &[usize], k: usize) -> u8 {
 }
 
 // The alteration of a sign.
-pub fn sign_at(data: &[u8], ends: &[usize], k: usize) -> i8 {
+pub(crate) fn sign_at(data: &[u8], ends: &[usize], k: usize) -> i8 {
     let token = token_at(data, ends, k);
     match token {
         Token::Accidental(alter) => alter,
@@ -220,7 +226,7 @@ fn is_marked(data: &[u8], ends: &[usize], stored: &[u32], from: usize, octave: u
 }
 
 // The last letter up to `from` with this step and octave that a sign marks, since the last barline.
-pub fn latest_marked(
+pub(crate) fn latest_marked(
     data: &[u8],
     ends: &[usize],
     stored: &[u32],
@@ -243,7 +249,7 @@ pub fn latest_marked(
 }
 
 // The last key up to `from` that was taken: no mark since the last barline before it stored a record.
-pub fn latest_key(data: &[u8], ends: &[usize], stored: &[u32], from: usize) -> usize {
+pub(crate) fn latest_key(data: &[u8], ends: &[usize], stored: &[u32], from: usize) -> usize {
     let mut k = from;
     while 0 < k {
         let key = latest(data, ends, stored, k, Sought::Key, Sought::Nothing);
@@ -275,7 +281,7 @@ fn takes_length(token: Token, notes: &[i32], number: u32) -> bool {
 }
 
 // How many lengths the marks up to `from` took since the last pattern.
-pub fn lengths_taken(
+pub(crate) fn lengths_taken(
     data: &[u8],
     ends: &[usize],
     stored: &[u32],

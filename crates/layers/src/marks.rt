@@ -55,7 +55,7 @@ fn mark_end(data: &[u8], at: usize) -> usize
 }
 
 // Cuts the data into marks; how many there are.
-pub fn cut(data: &[u8], ends: &mut [usize]) -> usize {
+pub(crate) fn cut(data: &[u8], ends: &mut [usize]) -> usize {
     let mut k = 0;
     let mut at = 0;
     while at < data.len() {
@@ -68,7 +68,7 @@ pub fn cut(data: &[u8], ends: &mut [usize]) -> usize {
 }
 
 // The offset behind a mark.
-pub fn end_of(ends: &[usize], k: usize) -> usize {
+pub(crate) fn end_of(ends: &[usize], k: usize) -> usize {
     if k < ends.len() {
         return ends[k];
     }
@@ -76,7 +76,7 @@ pub fn end_of(ends: &[usize], k: usize) -> usize {
 }
 
 // The offset of a mark.
-pub fn start_of(ends: &[usize], k: usize) -> usize {
+pub(crate) fn start_of(ends: &[usize], k: usize) -> usize {
     if k == 0 {
         return 0;
     }
@@ -84,7 +84,7 @@ pub fn start_of(ends: &[usize], k: usize) -> usize {
 }
 
 // The place of a mark.
-pub fn place_of(ends: &[usize], k: usize) -> usize {
+pub(crate) fn place_of(ends: &[usize], k: usize) -> usize {
     let start = start_of(ends, k);
     if start < 65536 {
         return start + 1;
@@ -101,12 +101,18 @@ fn token_in(data: &[u8], start: usize, end: usize) -> Token {
 }
 
 // What a mark is.
-pub fn token_at(data: &[u8], ends: &[usize], k: usize) -> Token {
+pub(crate) fn token_at(data: &[u8], ends: &[usize], k: usize) -> Token {
     token_in(data, start_of(ends, k), end_of(ends, k))
 }
 
 // The part of the text between two offsets, its beginning where it is long.
-pub fn say_part(row: &mut [u8; ROW], n: usize, text: &[u8], start: usize, end: usize) -> usize {
+pub(crate) fn say_part(
+    row: &mut [u8; ROW],
+    n: usize,
+    text: &[u8],
+    start: usize,
+    end: usize,
+) -> usize {
     if start <= end {
         if end - start <= SHOWN {
             return put_part(row, n, text, start, end);
@@ -118,7 +124,13 @@ pub fn say_part(row: &mut [u8; ROW], n: usize, text: &[u8], start: usize, end: u
 }
 
 // The text of a mark.
-pub fn say_mark(row: &mut [u8; ROW], n: usize, data: &[u8], ends: &[usize], k: usize) -> usize {
+pub(crate) fn say_mark(
+    row: &mut [u8; ROW],
+    n: usize,
+    data: &[u8],
+    ends: &[usize],
+    k: usize,
+) -> usize {
     say_part(row, n, data, start_of(ends, k), end_of(ends, k))
 }
 
@@ -239,7 +251,7 @@ fn say_lengths(row: &mut [u8; ROW], n: usize, data: &[u8], start: usize, end: us
 }
 
 // How many lengths a pattern has.
-pub fn lengths_in(data: &[u8], start: usize, end: usize) -> usize {
+pub(crate) fn lengths_in(data: &[u8], start: usize, end: usize) -> usize {
     let mut n = 0;
     let mut i = start;
     while i < end {
@@ -373,7 +385,7 @@ fn show_mark(data: &[u8], ends: &[usize], k: usize, inside: bool) {
 }
 
 // The second layer.
-pub fn show_marks(data: &[u8], ends: &[usize], count: usize) {
+pub(crate) fn show_marks(data: &[u8], ends: &[usize], count: usize) {
     say_heading(b"2. Its marks");
     say_row(b"   place  mark        what it is");
     let mut inside = false;

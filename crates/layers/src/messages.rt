@@ -10,7 +10,7 @@ use super::row::say_number;
 use super::terms::say_place;
 
 // Lines and their remarks stand behind a margin.
-pub const MARGIN: usize = 10;
+pub(crate) const MARGIN: usize = 10;
 
 // Where a diagnostic's words stand.
 const NUMBER: usize = 0;
@@ -142,7 +142,7 @@ fn is_within(diagnostics: &[i32], i: u32, data: bool, above: usize, most: usize)
 }
 
 // The diagnostics of a line or of a part of the data, as rows.
-pub fn show_diagnostics(
+pub(crate) fn show_diagnostics(
     text: &[u8],
     diagnostics: &[i32],
     count: u32,
@@ -160,7 +160,7 @@ pub fn show_diagnostics(
 }
 
 // A caret under a place of the part of the data that is above `above`.
-pub fn put_caret(row: &mut [u8; ROW], n: usize, place: usize, above: usize) -> usize {
+pub(crate) fn put_caret(row: &mut [u8; ROW], n: usize, place: usize, above: usize) -> usize {
     if above < place {
         let columns = place - above;
         if columns < ROW {
@@ -174,7 +174,7 @@ pub fn put_caret(row: &mut [u8; ROW], n: usize, place: usize, above: usize) -> u
 }
 
 // Carets under the places of the diagnostics in a part of the data.
-pub fn put_carets(
+pub(crate) fn put_carets(
     row: &mut [u8; ROW],
     n: usize,
     diagnostics: &[i32],
@@ -199,7 +199,7 @@ pub fn put_carets(
 }
 
 // The refusal as a row.
-pub fn show_refusal(number: u32, place: u32) {
+pub(crate) fn show_refusal(number: u32, place: u32) {
     let mut row = [0u8; ROW];
     let mut n = pad(&mut row, 0, MARGIN);
     n = say(&mut row, n, b"refused ");

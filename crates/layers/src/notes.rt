@@ -160,7 +160,7 @@ fn show_note(notes: &[i32], number: u32, data: &[u8]) {
 }
 
 // The third layer.
-pub fn show_notes(notes: &[i32], count: u32, data: &[u8]) {
+pub(crate) fn show_notes(notes: &[i32], count: u32, data: &[u8]) {
     say_heading(b"3. The notes");
     say_row(b"   no.   place  kind     length      pitches         notations");
     let mut number: u32 = 0;

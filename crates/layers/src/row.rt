@@ -3,7 +3,7 @@ use libc::STDOUT_FILENO;
 use show::byte_at;
 use text::is_blank;
 
-pub const ROW: usize = 256;
+pub(crate) const ROW: usize = 256;
 
 // Blanks are shown as a space, other bytes that don't print as `?`.
 fn shown(b: u8) -> u8 {
@@ -23,7 +23,7 @@ fn write_out(row: &[u8], n: usize) {
     }
 }
 
-pub fn put(row: &mut [u8; ROW], n: usize, b: u8) -> usize {
+pub(crate) fn put(row: &mut [u8; ROW], n: usize, b: u8) -> usize {
     if n < ROW {
         row[n] = b;
         return n + 1;
@@ -34,7 +34,13 @@ pub fn put(row: &mut [u8; ROW], n: usize, b: u8) -> usize {
 }
 
 // The part of a text between two offsets.
-pub fn put_part(row: &mut [u8; ROW], n: usize, text: &[u8], start: usize, end: usize) -> usize {
+pub(crate) fn put_part(
+    row: &mut [u8; ROW],
+    n: usize,
+    text: &[u8],
+    start: usize,
+    end: usize,
+) -> usize {
     let mut m = n;
     let mut i = start;
     while i < end {
@@ -44,12 +50,12 @@ pub fn put_part(row: &mut [u8; ROW], n: usize, text: &[u8], start: usize, end: u
     m
 }
 
-pub fn say(row: &mut [u8; ROW], n: usize, words: &[u8]) -> usize {
+pub(crate) fn say(row: &mut [u8; ROW], n: usize, words: &[u8]) -> usize {
     put_part(row, n, words, 0, words.len())
 }
 
 // One byte for each number from `from` on, below `to`.
-pub fn fill(row: &mut [u8; ROW], n: usize, b: u8, from: usize, to: usize) -> usize {
+pub(crate) fn fill(row: &mut [u8; ROW], n: usize, b: u8, from: usize, to: usize) -> usize {
     let mut m = n;
     let mut i = from;
     while i < to {
@@ -60,19 +66,19 @@ pub fn fill(row: &mut [u8; ROW], n: usize, b: u8, from: usize, to: usize) -> usi
 }
 
 // Spaces up to a column.
-pub fn pad(row: &mut [u8; ROW], n: usize, column: usize) -> usize {
+pub(crate) fn pad(row: &mut [u8; ROW], n: usize, column: usize) -> usize {
     fill(row, n, b' ', n, column)
 }
 
 // A number in at least so many columns.
-pub fn number_in(row: &mut [u8; ROW], n: usize, number: u64, columns: usize) -> usize {
+pub(crate) fn number_in(row: &mut [u8; ROW], n: usize, number: u64, columns: usize) -> usize {
     let mut digits = [0u8; 20];
     let size = io::decimal(number, &mut digits);
     let m = fill(row, n, b' ', size, columns);
     say(row, m, &digits[..size])
 }
 
-pub fn say_number(row: &mut [u8; ROW], n: usize, number: u64) -> usize {
+pub(crate) fn say_number(row: &mut [u8; ROW], n: usize, number: u64) -> usize {
     number_in(row, n, number, 0)
 }
 
@@ -89,7 +95,7 @@ fn without_spaces(row: &[u8], n: usize) -> usize {
 }
 
 // The row ends; the next one is empty.
-pub fn end_row(row: &mut [u8; ROW], n: usize) -> usize {
+pub(crate) fn end_row(row: &mut [u8; ROW], n: usize) -> usize {
     let last = without_spaces(row, n);
     let m = put(row, last, b'\n');
     write_out(row, m);
@@ -97,14 +103,14 @@ pub fn end_row(row: &mut [u8; ROW], n: usize) -> usize {
 }
 
 // A row of these words alone.
-pub fn say_row(words: &[u8]) {
+pub(crate) fn say_row(words: &[u8]) {
     let mut row = [0u8; ROW];
     let n = say(&mut row, 0, words);
     end_row(&mut row, n);
 }
 
 // A layer's heading, between empty rows.
-pub fn say_heading(words: &[u8]) {
+pub(crate) fn say_heading(words: &[u8]) {
     say_row(b"");
     say_row(words);
     say_row(b"");

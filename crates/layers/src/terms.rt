@@ -6,7 +6,7 @@ use super::row::say_number;
 use records::cells::natural;
 
 // The letter of a step from C.
-pub fn letter_of(step: u32) -> u8 {
+pub(crate) fn letter_of(step: u32) -> u8 {
     match step {
         0 => b'C',
         1 => b'D',
@@ -19,12 +19,12 @@ pub fn letter_of(step: u32) -> u8 {
 }
 
 // A small signed number as a word holds it.
-pub fn wide(number: i8) -> i32 {
+pub(crate) fn wide(number: i8) -> i32 {
     number as i32
 }
 
 // An alteration behind its letter.
-pub fn say_sign(row: &mut [u8; ROW], n: usize, alter: i32) -> usize {
+pub(crate) fn say_sign(row: &mut [u8; ROW], n: usize, alter: i32) -> usize {
     match alter {
         2 => say(row, n, b"##"),
         1 => say(row, n, b"#"),
@@ -35,14 +35,20 @@ pub fn say_sign(row: &mut [u8; ROW], n: usize, alter: i32) -> usize {
 }
 
 // A pitch: letter, alteration, octave.
-pub fn say_pitch(row: &mut [u8; ROW], n: usize, step: u32, alter: i32, octave: u32) -> usize {
+pub(crate) fn say_pitch(
+    row: &mut [u8; ROW],
+    n: usize,
+    step: u32,
+    alter: i32,
+    octave: u32,
+) -> usize {
     let m = put(row, n, letter_of(step));
     let k = say_sign(row, m, alter);
     say_number(row, k, octave as u64)
 }
 
 // An alteration in words.
-pub fn say_alteration(row: &mut [u8; ROW], n: usize, alter: i32) -> usize {
+pub(crate) fn say_alteration(row: &mut [u8; ROW], n: usize, alter: i32) -> usize {
     match alter {
         2 => say(row, n, b"double sharp"),
         1 => say(row, n, b"sharp"),
@@ -52,7 +58,7 @@ pub fn say_alteration(row: &mut [u8; ROW], n: usize, alter: i32) -> usize {
     }
 }
 
-pub fn say_duration(row: &mut [u8; ROW], n: usize, duration: u32) -> usize {
+pub(crate) fn say_duration(row: &mut [u8; ROW], n: usize, duration: u32) -> usize {
     match duration {
         0 => say(row, n, b"longa"),
         1 => say(row, n, b"breve"),
@@ -68,7 +74,7 @@ pub fn say_duration(row: &mut [u8; ROW], n: usize, duration: u32) -> usize {
 }
 
 // A length: its duration, and its dots behind it.
-pub fn say_length(row: &mut [u8; ROW], n: usize, duration: u32, dots: u32) -> usize {
+pub(crate) fn say_length(row: &mut [u8; ROW], n: usize, duration: u32, dots: u32) -> usize {
     let m = say_duration(row, n, duration);
     match dots {
         0 => m,
@@ -78,7 +84,7 @@ pub fn say_length(row: &mut [u8; ROW], n: usize, duration: u32, dots: u32) -> us
     }
 }
 
-pub fn say_kind(row: &mut [u8; ROW], n: usize, kind: u32) -> usize {
+pub(crate) fn say_kind(row: &mut [u8; ROW], n: usize, kind: u32) -> usize {
     match kind {
         0 => say(row, n, b"note"),
         1 => say(row, n, b"rest"),
@@ -88,7 +94,7 @@ pub fn say_kind(row: &mut [u8; ROW], n: usize, kind: u32) -> usize {
 }
 
 // A clef by its number, 0 none.
-pub fn say_clef(row: &mut [u8; ROW], n: usize, clef: u32) -> usize {
+pub(crate) fn say_clef(row: &mut [u8; ROW], n: usize, clef: u32) -> usize {
     match clef {
         0 => say(row, n, b"-"),
         1 => say(row, n, b"treble"),
@@ -117,7 +123,7 @@ fn flats_of(fifths: i32) -> u32 {
 }
 
 // So many of what the words name, in the singular.
-pub fn say_counted(row: &mut [u8; ROW], n: usize, count: u32, words: &[u8]) -> usize {
+pub(crate) fn say_counted(row: &mut [u8; ROW], n: usize, count: u32, words: &[u8]) -> usize {
     let m = say_number(row, n, count as u64);
     let k = put(row, m, b' ');
     let l = say(row, k, words);
@@ -128,7 +134,7 @@ pub fn say_counted(row: &mut [u8; ROW], n: usize, count: u32, words: &[u8]) -> u
 }
 
 // A key by its fifths.
-pub fn say_fifths(row: &mut [u8; ROW], n: usize, fifths: i32) -> usize {
+pub(crate) fn say_fifths(row: &mut [u8; ROW], n: usize, fifths: i32) -> usize {
     if fifths == 0 {
         return say(row, n, b"no signs");
     }
@@ -139,7 +145,7 @@ pub fn say_fifths(row: &mut [u8; ROW], n: usize, fifths: i32) -> usize {
 }
 
 // A meter, with its symbol.
-pub fn say_meter(
+pub(crate) fn say_meter(
     row: &mut [u8; ROW],
     n: usize,
     numerator: u32,
@@ -157,7 +163,7 @@ pub fn say_meter(
 }
 
 // The left or right of a bar.
-pub fn say_side(row: &mut [u8; ROW], n: usize, side: u32) -> usize {
+pub(crate) fn say_side(row: &mut [u8; ROW], n: usize, side: u32) -> usize {
     match side {
         0 => say(row, n, b"plain"),
         1 => say(row, n, b"double"),
@@ -167,7 +173,7 @@ pub fn say_side(row: &mut [u8; ROW], n: usize, side: u32) -> usize {
 }
 
 // A place of the data.
-pub fn say_place(row: &mut [u8; ROW], n: usize, place: usize) -> usize {
+pub(crate) fn say_place(row: &mut [u8; ROW], n: usize, place: usize) -> usize {
     let m = say(row, n, b"place ");
     say_number(row, m, place as u64)
 }

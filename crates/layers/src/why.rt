@@ -33,7 +33,7 @@ use values::attributes::key_of;
 use values::rhythm::duration_of;
 
 // The key that the fields set: its alterations, and the line of the last keysig field, 0 where there is none.
-pub struct KeyField {
+pub(crate) struct KeyField {
     pub alters: [i8; 7],
     pub line: usize,
 }
@@ -456,7 +456,7 @@ fn show_mark_why(
 }
 
 // Why each letter sounds as it does.
-pub fn show_whys(
+pub(crate) fn show_whys(
     data: &[u8],
     ends: &[usize],
     stored: &[u32],

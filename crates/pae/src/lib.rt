@@ -85,7 +85,7 @@ fn publish(words: &[i32], n: usize, list: &mut [Diagnostic])
     }
 }
 
-// Reads a text.
+// Reads a text of any bytes and any length into lent buffers of any length: a finished reading, or one refusal after which every lent cell is 0.
 #[no_mangle]
 pub extern "C" fn pae_read(
     text: &[u8],
