@@ -97,3 +97,17 @@ fn later_ones_are_dropped() {
     let text = format!("C{}", "z".repeat(DIAGNOSTIC_CELLS + 1));
     assert_eq!(diagnostics(&text).len(), DIAGNOSTIC_CELLS);
 }
+
+#[test]
+fn many_are_in_order() {
+    for count in [63, 64, 65, 66, 500] {
+        let text = format!("@title:x\n@data:C{}", "z".repeat(count - 1));
+        let found = diagnostics(&text);
+        assert_eq!(found.len(), count);
+        assert_eq!(found[0].position.to_string(), "/line/1/field/title");
+        for (place, found) in (2..).zip(&found[1..]) {
+            assert_eq!(found.position.to_string(), format!("/data/{place}"));
+            assert_eq!(found.value, "z");
+        }
+    }
+}

@@ -2,26 +2,31 @@
 use Prim.Native.Nat.{ℕ, zero, suc, _+_, _-_, _*_, _<_, _≤_}
 use native.Mathlib.Omega.{arith}
 use native.Mathlib.Nat.{add-mul, add-assoc}
-use mathlib.Core.Path.{_≡_, refl}
+use mathlib.Core.Path.{_≡_, refl, sym, ap, subst}
 use mathlib.Core.Bool.{Bool, true, false, cond, _&&_, false≢true}
 use mathlib.Core.Option.{Option, none, some}
 use mathlib.Core.List.{List}
 use lib.IntN.{ℤ, pos}
 use lib.ListN.{getD, drop}
 use lib.Seq.{getD-take, getD-drop}
-use lib.Dec.{eqb, ltb}
+use lib.Dec.{eqb, leb, ltb}
 use borrow.Author.Tests.{ltb-true, ne-eqb}
+use Rattle.rules.specs.Limits.{noteSize, markCapacity}
 use Rattle.rules.specs.Rules as rules
 use Rattle.rules.specs.Rules.{closing, tupletOf}
 use Rattle.rules.specs.Refusals.{isFermata}
 use Rattle.records.specs.Cells.{recordAt}
-use Rattle.records.specs.Groups.{lastTimed}
-use Rattle.records.proofs.GroupLaws.{last-below}
+use Rattle.records.specs.Notes.{numberAt, markCountAt}
+use Rattle.records.specs.declared.group.Timed.{Timed}
+use Rattle.records.specs.Groups.{timedCount, lastTimed}
+use Rattle.records.proofs.GroupLaws.{last-below, timed-below}
 use Rattle.values.specs.declared.pae.Voice.{Voice}
 use Rattle.values.specs.declared.pae.Counts.{Counts}
-use Rattle.steps.specs.State.{hasContent, repeatedCount}
+use Rattle.values.specs.declared.pae.Groups.{Groups}
+use Rattle.steps.specs.State.{hasContent, openLength, repeatedCount}
 use Rattle.steps.specs.Notes.{endsOf, joinsOf}
 use Rattle.steps.specs.Relation.{countIn}
+use Rattle.checks.specs.Checks.{failing, groupCells, groupSize, groupTimed, fermataCheck, groupCheck}
 
 pub and-first : (a b : Bool) → a && b ≡ true → a ≡ true
 and-first true b e = refl
@@ -69,6 +74,41 @@ pub fermata-some : (timed : ℕ) (count : Option ℕ) → isFermata (closing tim
 fermata-some zero count e = absurd (false≢true e)
 fermata-some (suc timed) count e = omega arith
 
+-- the last non-grace record is one of the part
+last-inside : (l : List ℤ) (n : ℕ) {last : ℕ} → last ≡ lastTimed l n → 0 < n → last < n
+last-inside l n e h = rw e (last-below l n n (omega arith) h)
+
+module _ (g : Groups) (c : Counts) (l : List ℤ) where
+  abbrev part : List ℤ
+  part = groupCells g c l
+
+  abbrev size : ℕ
+  size = groupSize g c
+
+  -- the open group's records by whether there is one
+  abbrev timedIf : Bool → Timed
+  timedIf noted = cond noted (record { count = timedCount part size; last = lastTimed part size }) (record { count = 0; last = 0 })
+
+  -- a group that closes to a fermata has its record in the open bar
+  pub fermata-inside : (count : Option ℕ) {timed : Timed} → timed ≡ groupTimed g c l → isFermata (closing (timed .count) count) ≡ true → g .paren .length + timed .last < openLength c
+  fermata-inside count e f = subst (λ (t : Timed). g .paren .length + t .last < openLength c) (sym e) (go (g .paren .noted) (subst (λ (t : Timed). isFermata (closing (t .count) count) ≡ true) e f))
+    where
+      go : (noted : Bool) → isFermata (closing (timedIf noted .count) count) ≡ true → g .paren .length + timedIf noted .last < openLength c
+      go true f = let some = fermata-some (timedCount part size) count f in omega (arith, last-inside part size refl (omega (arith, timed-below part size)))
+      go false f = absurd (false≢true f)
+
+  -- the check of a group, by whether it closes to a fermata
+  pub group-checked : {timed : Timed} → timed ≡ groupTimed g c l → (b : Bool) → isFermata (closing (timed .count) (countIn (g .count))) ≡ b
+      → groupCheck g c l ≡ failing (b && leb markCapacity (numberAt markCountAt (recordAt noteSize part (timed .last)))) 10
+  group-checked e b f =
+      subst (λ (t : Timed). groupCheck g c l ≡ failing (b && leb markCapacity (numberAt markCountAt (recordAt noteSize part (t .last)))) 10) (sym e)
+      (go (g .paren .noted) (subst (λ (t : Timed). isFermata (closing (t .count) (countIn (g .count))) ≡ b) e f))
+    where
+      go : (noted : Bool) → isFermata (closing (timedIf noted .count) (countIn (g .count))) ≡ b
+          → cond noted (fermataCheck part size (g .count)) 0 ≡ failing (b && leb markCapacity (numberAt markCountAt (recordAt noteSize part (timedIf noted .last)))) 10
+      go true f = ap (λ (x : Bool). failing (x && leb markCapacity (numberAt markCountAt (recordAt noteSize part (lastTimed part size)))) 10) f
+      go false f = ap (λ (x : Bool). failing (x && leb markCapacity (numberAt markCountAt (recordAt noteSize part 0))) 10) f
+
 -- ---- cells
 
 -- a word of a record in a part of the cells
@@ -76,6 +116,11 @@ pub part-word : (size : ℕ) (l : List ℤ) (from n k : ℕ) → k < size → ge
 unfolding recordAt
 part-word size l from n k h = rw (getD-take, getD-drop, getD-drop, add-mul, add-assoc)
 
--- the last non-grace record is one of the part
-pub last-inside : (l : List ℤ) (n : ℕ) {last : ℕ} → last ≡ lastTimed l n → 0 < n → last < n
-last-inside l n e h = rw e (last-below l n n (omega arith) h)
+-- whether a bar to store has no room, from the number of its check
+pub bar-fails : (b : Bool) → (failing b 12 ≡ 0 → ⊥) → b ≡ true
+bar-fails true h = refl
+bar-fails false h = absurd (h refl)
+
+pub bar-passes : (b : Bool) → failing b 12 ≡ 0 → b ≡ false
+bar-passes true h = absurd (omega arith)
+bar-passes false h = refl

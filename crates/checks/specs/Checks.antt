@@ -4,13 +4,14 @@ use mathlib.Core.Bool.{Bool, cond, _&&_}
 use mathlib.Core.List.{List}
 use lib.IntN.{ℤ}
 use lib.ListN.{drop}
-use lib.Dec.{leb, ltb}
+use lib.Dec.{leb, ltb, eqb}
 use Rattle.rules.specs.Limits.{noteLimit, noteSize, pitchCapacity, markCapacity}
 use Rattle.rules.specs.Rules.{closing}
 use Rattle.rules.specs.Refusals.{isFermata}
 use Rattle.records.specs.Cells.{recordAt}
 use Rattle.records.specs.Notes.{numberAt, markCountAt, pitchCountAt}
 use Rattle.records.specs.Groups.{timedCount, lastTimed}
+use Rattle.records.specs.declared.group.Timed.{Timed}
 use Rattle.values.specs.declared.pae.Counts.{Counts}
 use Rattle.values.specs.declared.pae.Groups.{Groups}
 use Rattle.values.specs.declared.pae.Pae.{Pae}
@@ -24,6 +25,7 @@ use Rattle.steps.specs.State.{hasContent, openLength, repeatedCount, figureClos
 use Rattle.steps.specs.Notes.{lastField}
 use Rattle.steps.specs.Relation.{countIn}
 use Rattle.checks.specs.declared.Room.{Room}
+use Rattle.checks.specs.declared.Stop.{Stop}
 
 -- the number of a check that fails, else 0
 abbrev pub failing : Bool → ℕ → ℕ
@@ -45,10 +47,18 @@ letterCheck joined c cells lent = cond joined (failing (leb pitchCapacity (lastF
 abbrev pub barCheck : Counts → ℕ → ℕ
 barCheck c lent = failing (hasContent c && leb lent (c .bars)) 12
 
--- the closing `!`: 11, the figure passes the lent figure records; `f`, `i`: 7, 8
+-- after data of this size: 12, at its size plus 1, then 13, no record is stored
+abbrev pub endCheck : Counts → ℕ → ℕ → Stop
+endCheck c lent size = cond (hasContent c && leb lent (c .bars)) (record { number = 12; place = size + 1 }) (cond (eqb (c .notes) 0) (record { number = 13; place = 0 }) (record { number = 0; place = 0 }))
+
+-- the closing `!`: 11, the figure passes the lent figure records
+abbrev pub markCheck : Groups → Counts → ℕ → ℕ
+markCheck g c lent = failing (ltb lent (figureClosed g (openLength c) 0)) 11
+
+-- `f`, `i`: 7, 8
 abbrev pub figureCheck : Figure → Pae → Room → ℕ
 figureCheck figure st room = let c = st .counts in elim figure [
-  | f.Mark ↦ failing (ltb (room .figure) (figureClosed (st .groups) (openLength c) 0)) 11
+  | f.Mark ↦ markCheck (st .groups) c (room .figure)
   | f.Repeat ↦ storing (c .notes) (st .figure) (room .notes)
   | f.Bar ↦ storing (c .notes) (repeatedCount c) (room .notes)
 ]
@@ -73,6 +83,11 @@ groupCells g c cells = drop ((c .first + g .paren .length) * noteSize) cells
 
 abbrev pub groupSize : Groups → Counts → ℕ
 groupSize g c = openLength c - g .paren .length
+
+-- the open group's non-grace records, if there is one: how many, and the number of the last
+abbrev pub groupTimed : Groups → Counts → List ℤ → Timed
+groupTimed g c cells = let part = groupCells g c cells in let size = groupSize g c in
+    cond (g .paren .noted) (record { count = timedCount part size; last = lastTimed part size }) (record { count = 0; last = 0 })
 
 -- `)`: the open group, if there is one
 abbrev pub groupCheck : Groups → Counts → List ℤ → ℕ

@@ -2,16 +2,14 @@
 ghost use mathlib.Core.Path.{_≡_};
 ghost use mathlib.Core.Bool.{true};
 ghost use Prim.Native.Nat.{_+_, _*_, _≤_, _<_};
-ghost use lib.ListN.{length, drop};
+ghost use lib.ListN.{length};
 ghost use Rattle.rules.specs.Limits.{noteLimit, noteSize};
 ghost use Rattle.rules.specs.Rules.{closing};
 ghost use Rattle.rules.specs.Refusals.{isFermata};
-ghost use Rattle.steps.specs.Notes.{joinsOf};
+ghost use Rattle.records.specs.Cells.{wordLimit};
 ghost use Rattle.steps.specs.Relation.{countIn};
-ghost use Rattle.checks.specs.Checks.{failing, storing, letterCheck, barCheck, figureCheck, trillCheck, fermataCheck, groupCheck, markingCheck, checkOf};
-use decode::Figure;
-use decode::Marking;
-use decode::Token;
+ghost use Rattle.checks.specs.Checks.{failing, storing, letterCheck, barCheck, endCheck, markCheck, trillCheck, groupTimed, groupCheck};
+use records::group::Timed;
 use records::group::timed_from;
 use records::note::MARK_COUNT;
 use records::note::PITCH_COUNT;
@@ -19,7 +17,6 @@ use records::note::field;
 use steps::state::figure_closed;
 use steps::state::has_content;
 use steps::state::open_length;
-use steps::state::repeated_count;
 use values::pae::Counts;
 use values::pae::Groups;
 use values::pae::Pae;
@@ -29,6 +26,12 @@ pub struct Room {
     pub notes: usize,
     pub bars: usize,
     pub figure: usize,
+}
+
+// Where a reading stops at its end: the number of the check that fails, or 0, and the place.
+pub struct Stop {
+    pub number: u8,
+    pub place: u32,
 }
 
 // The number of a check that fails, else 0.
@@ -42,7 +45,7 @@ fn failing(fails: bool, number: u8) -> u8
 }
 
 // 7 or 8 where `added` records more have no room.
-fn room_for(notes: usize, added: usize, lent: usize) -> u8
+pub fn room_for(notes: usize, added: usize, lent: usize) -> u8
     requires { ⌜ (notes ≤ noteLimit) × (added ≤ noteLimit) ⌝ }
     ensures { λ r. ⌜ r ≡ storing notes added lent ⌝ }
 {
@@ -54,7 +57,7 @@ fn room_for(notes: usize, added: usize, lent: usize) -> u8
 }
 
 // 9 where a letter joins a record of 8 pitches; where it opens one, whether it has room.
-fn check_letter(joined: bool, counts: Counts, notes: &[i32], lent: usize) -> u8
+pub fn check_letter(joined: bool, counts: Counts, notes: &[i32], lent: usize) -> u8
     requires { ⌜ (joined ≡ true → 0 < counts .notes) × (counts .notes * noteSize ≤ length (now notes)) × (counts .notes ≤ noteLimit) ⌝ }
     ensures { λ r. ⌜ r ≡ letterCheck joined counts (now (notes .entry)) lent ⌝ }
 {
@@ -65,30 +68,47 @@ fn check_letter(joined: bool, counts: Counts, notes: &[i32], lent: usize) -> u8
     room_for(counts.notes, 1, lent)
 }
 
-// 12 where a bar to store has no room; also at the end of the data.
+// 12 where a bar to store has no room.
 pub fn check_bar(counts: Counts, lent: usize) -> u8
     ensures { λ r. ⌜ r ≡ barCheck counts lent ⌝ }
 {
     failing(has_content(counts) & (lent <= counts.bars), 12)
 }
 
-// 11 where the figure that a `!` closes has no room; whether there is room for what `f` and `i` copy.
-fn check_figure(figure: Figure, st: Pae, room: Room) -> u8
-    requires { ⌜ (st .counts .notes ≤ noteLimit) × (st .figure ≤ noteLimit) × (st .counts .first ≤ st .counts .notes) × (st .counts .last ≤ st .counts .first) ⌝ }
-    ensures { λ r. ⌜ r ≡ figureCheck figure st room ⌝ }
+// After data of this length: 12 where the bar to store has no room, at data length plus 1; 13 where no record is stored.
+pub fn check_end(counts: Counts, lent: usize, length: usize) -> Stop
+    requires { ⌜ length < wordLimit ⌝ }
+    ensures { λ r. ⌜ r ≡ endCheck counts lent length ⌝ }
 {
-    match figure {
-        Figure::Mark => {
-            let closed = figure_closed(st.groups, open_length(st.counts), 0);
-            failing(room.figure < closed, 11)
-        }
-        Figure::Repeat => room_for(st.counts.notes, st.figure, room.notes),
-        Figure::Bar => room_for(st.counts.notes, repeated_count(st.counts), room.notes),
+    if check_bar(counts, lent) != 0 {
+        return Stop {
+            number: 12,
+            place: (length + 1) as u32,
+        };
+    }
+    if counts.notes == 0 {
+        return Stop {
+            number: 13,
+            place: 0,
+        };
+    }
+    Stop {
+        number: 0,
+        place: 0,
     }
 }
 
+// 11 where the figure that a `!` closes has no room.
+pub fn check_mark(groups: Groups, counts: Counts, lent: usize) -> u8
+    requires { ⌜ counts .first ≤ counts .notes ⌝ }
+    ensures { λ r. ⌜ r ≡ markCheck groups counts lent ⌝ }
+{
+    let closed = figure_closed(groups, open_length(counts), 0);
+    failing(lent < closed, 11)
+}
+
 // 10 where `t` meets a last record of 8 marks.
-fn check_trill(counts: Counts, notes: &[i32]) -> u8
+pub fn check_trill(counts: Counts, notes: &[i32]) -> u8
     requires { ⌜ counts .notes * noteSize ≤ length (now notes) ⌝ }
     ensures { λ r. ⌜ r ≡ trillCheck counts (now (notes .entry)) ⌝ }
 {
@@ -106,59 +126,31 @@ fn is_fermata(timed: usize, count: u16) -> bool
     (timed == 1) & (count == Pae::NO_COUNT)
 }
 
-// 10 where the `size` records from record `from` on close to a fermata at a record of 8 marks.
-fn check_fermata(notes: &[i32], from: usize, size: usize, count: u16) -> u8
-    requires { ⌜ (from * noteSize + size * noteSize ≤ length (now notes)) × (0 < size) ⌝ }
-    ensures { λ r. ⌜ r ≡ fermataCheck (drop (from * noteSize) (now (notes .entry))) size count ⌝ }
+// The non-grace records of the open group, from its start on.
+pub fn group_timed(groups: Groups, counts: Counts, notes: &[i32]) -> Timed
+    requires { ⌜ (counts .notes * noteSize ≤ length (now notes)) × (counts .first ≤ counts .notes) ⌝ }
+    ensures { λ r. ⌜ r ≡ groupTimed groups counts (now (notes .entry)) ⌝ }
 {
-    let timed = timed_from(notes, from, size);
-    if is_fermata(timed.count, count) {
+    let start = groups.paren;
+    let length = open_length(counts);
+    if !start.noted {
+        return Timed { count: 0, last: 0 };
+    }
+    if length <= start.length {
+        return Timed { count: 0, last: 0 };
+    }
+    timed_from(notes, counts.first + start.length, length - start.length)
+}
+
+// 10 where a `)` closes its group, of which these are non-grace, to a fermata at a record of 8 marks.
+pub fn check_group(groups: Groups, counts: Counts, timed: Timed, notes: &[i32]) -> u8
+    requires { ⌜ (timed ≡ groupTimed groups counts (now notes)) × (counts .notes * noteSize ≤ length (now notes)) × (counts .first ≤ counts .notes) ⌝ }
+    ensures { λ r. ⌜ r ≡ groupCheck groups counts (now (notes .entry)) ⌝ }
+{
+    if is_fermata(timed.count, groups.count) {
+        let from = counts.first + groups.paren.length;
         let marks = field(notes, from + timed.last, MARK_COUNT);
         return failing(Pae::MAX_MARKS <= marks as usize, 10);
     }
     0
-}
-
-// The same of the open group, at a `)`.
-fn check_group(groups: Groups, counts: Counts, notes: &[i32]) -> u8
-    requires { ⌜ (counts .notes * noteSize ≤ length (now notes)) × (counts .first ≤ counts .notes) ⌝ }
-    ensures { λ r. ⌜ r ≡ groupCheck groups counts (now (notes .entry)) ⌝ }
-{
-    if groups.paren.noted {
-        let start = groups.paren.length;
-        let length = open_length(counts);
-        if length <= start {
-            return 0;
-        }
-        return check_fermata(notes, counts.first + start, length - start, groups.count);
-    }
-    0
-}
-
-// 10 where `t` or the fermata of a `)` meets a record of 8 marks.
-fn check_marking(marking: Marking, st: Pae, notes: &[i32]) -> u8
-    requires { ⌜ (st .counts .notes * noteSize ≤ length (now notes)) × (st .counts .first ≤ st .counts .notes) ⌝ }
-    ensures { λ r. ⌜ r ≡ markingCheck marking st (now (notes .entry)) ⌝ }
-{
-    match marking {
-        Marking::GroupClose => check_group(st.groups, st.counts, notes),
-        Marking::Trill => check_trill(st.counts, notes),
-        _ => 0,
-    }
-}
-
-// The number of the first check that fails at a token, 0 where none does. `joined`: a letter joins a chord.
-pub fn check(token: Token, st: Pae, joined: bool, notes: &[i32], room: Room) -> u8
-    requires { ⌜ (joined ≡ joinsOf (st .voice) (st .counts) (now notes)) × (st .counts .notes * noteSize ≤ length (now notes)) × (st .counts .notes ≤ noteLimit) × (st .figure ≤ noteLimit) × (st .counts .first ≤ st .counts .notes) × (st .counts .last ≤ st .counts .first) ⌝ }
-    ensures { λ r. ⌜ r ≡ checkOf token st joined (now (notes .entry)) room ⌝ }
-{
-    match token {
-        Token::Letter(_) => check_letter(joined, st.counts, notes, room.notes),
-        Token::Rest => room_for(st.counts.notes, 1, room.notes),
-        Token::Barline(_) => check_bar(st.counts, room.bars),
-        Token::Figure(figure) => check_figure(figure, st, room),
-        Token::Marking(marking) => check_marking(marking, st, notes),
-        Token::MeasureRest => 6,
-        _ => 0,
-    }
 }

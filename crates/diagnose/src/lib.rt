@@ -1,9 +1,7 @@
 // What tokens and lines diagnose.
 ghost use mathlib.Core.Path.{_≡_};
-ghost use Prim.Native.Nat.{_*_, _<_, _≤_};
-ghost use lib.ListN.{length};
+ghost use Prim.Native.Nat.{_<_};
 ghost use mathlib.Core.List.{[], _∷_, map};
-ghost use Rattle.rules.specs.Limits.{diagnosticLimit, diagnosticSize};
 ghost use Rattle.rules.specs.Records.{atLine, atField, textPart};
 ghost use Rattle.rules.specs.Diagnostics.{diagnostic, clefDiagnosed, keyDiagnosed, meterDiagnosed};
 ghost use Rattle.rules.specs.Words.{diagnosticWords};
@@ -109,9 +107,8 @@ pub fn field_found(line: Line, start: Offset, end: Offset) -> Found
     Found::One(at_field(2, line, start, end))
 }
 
-// All of them stored; the new count.
+// All of them stored, where there is room; the new count.
 pub fn store_found(cells: &mut [i32], count: usize, found: Found) -> usize
-    requires { ⌜ diagnosticLimit * diagnosticSize ≤ length (now cells) ⌝ }
     ensures { λ r. ⌜ (r ≡ countAfterAll count (foundIn found)) × (now (cells .exit) ≡ cellsAfterAll (now (cells .entry)) count (foundIn found)) ⌝ }
 {
     match found {

@@ -40,7 +40,7 @@ keyed key xs k = record {
 }
 
 module _ {a : Attributes} {k : rules.Attributes} (w : Attributed a (fresh k)) (xs : List ℕ) where
-  clef-taken : Attributed (clefSet xs a) (fresh (keyed Clef xs k))
+  clef-taken : Attributed (clefSet (clefOf xs) a) (fresh (keyed Clef xs k))
   clef-taken = go (clefOf xs .clef) (clef-some xs)
     where
       go : (o : Option ℕ) → given o none numberIn ≡ o
@@ -49,10 +49,10 @@ module _ {a : Attributes} {k : rules.Attributes} (w : Attributed a (fresh k)) (x
       go none e = w
       go (some c) e = record { clef = sym e; fifths = w .fifths; alters = w .alters; meter = w .meter; left = w .left; unkeyed = w .unkeyed; unmetered = w .unmetered }
 
-  key-taken : Attributed (keySet xs a) (fresh (keyed Keysig xs k))
+  key-taken : Attributed (keySet (keyOf xs) a) (fresh (keyed Keysig xs k))
   key-taken = record { clef = w .clef; fifths = refl; alters = refl; meter = w .meter; left = w .left; unkeyed = λ q. absurd (false≢true (sym q)); unmetered = w .unmetered }
 
-  meter-taken : Attributed (meterSet xs a) (fresh (keyed Timesig xs k))
+  meter-taken : Attributed (meterSet (meterOf xs) a) (fresh (keyed Timesig xs k))
   meter-taken = go (meterOf xs) (meter-some xs)
     where
       go : (o : Option Meter) → given o none metered ≡ o

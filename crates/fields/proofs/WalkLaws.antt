@@ -1,12 +1,12 @@
 -- The walk from line to line: it begins, it goes on, it ends. Assumes nothing.
-use Prim.Native.Nat.{ℕ, zero, suc, _+_, _*_, _<_, _≤_}
+use Prim.Native.Nat.{ℕ, zero, suc, _+_, _<_, _≤_}
 use native.Mathlib.Omega.{arith}
+use native.Mathlib.Nat.{zero-sub}
 use mathlib.Core.Path.{_≡_, refl, sym, ap, subst, _∙_}
 use mathlib.Core.Bool.{Bool, true, false, _||_, or-true}
 use mathlib.Core.List.{List, [], _∷_}
 use lib.IntN.{ℤ, pos}
 use lib.ListN.{length, drop, length-replicate}
-use Rattle.rules.specs.Limits.{diagnosticLimit, diagnosticSize}
 use Rattle.rules.specs.Text.{trim}
 use Rattle.rules.specs.Rules.{fresh}
 use Rattle.rules.specs.Fields as rules
@@ -28,7 +28,7 @@ none-attributed = record { clef = refl; fifths = refl; alters = refl; meter = re
 
 -- and nothing is diagnosed
 pub none-diagnosed : (size : ℕ) → Diagnosed size [] 0 (zeros size)
-none-diagnosed size = record { counted = refl; written = padded-none size }
+none-diagnosed size = record { counted = refl; written = rw zero-sub (padded-none size) }
 
 module _ (text : List ℕ) where
   -- the lines before an offset are those of `before`, and the next one has number n
@@ -121,16 +121,16 @@ module _ (text : List ℕ) where
   }
 
   module _ {size at n : ℕ} {s : Fields} {scratch : List ℤ} (w : Holds size at n s scratch) where
-    pub line-holds : at < length text → diagnosticLimit * diagnosticSize ≤ size → length (cellsNext (lineHere n at) s scratch) ≡ size
+    pub line-holds : at < length text → length (cellsNext (lineHere n at) s scratch) ≡ size
         → Holds size (endAt at + 1) (n + 1) (lineNext (lineHere n at) s) (cellsNext (lineHere n at) s scratch)
     unfolding linesDiagnosed lineNext cellsNext
-    line-holds h room kept = record {
+    line-holds h kept = record {
       before = lineHere n at ∷ w .before;
       reads = next-line h (w .reads);
       numbered = omega (arith, w .numbered);
       lent = kept;
       taken = taken-line text n at (endAt at) (omega arith) (line-within text at (omega arith)) (w .before) (w .taken);
-      diagnosed = all-stored room (lineDiagnosed (lineHere n at)) (w .diagnosed);
+      diagnosed = all-stored (lineDiagnosed (lineHere n at)) (w .diagnosed);
     }
 
     pub all-taken : length text ≤ at → Taken text (fieldsAfter (linesOf text)) s × Diagnosed size (linesDiagnosed (linesOf text)) (s .diagnostics) scratch

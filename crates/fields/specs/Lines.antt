@@ -1,10 +1,10 @@
 -- What a line makes of the program's fields and of the diagnostics. Assumes nothing.
-use Prim.Native.Nat.{ℕ, _*_, _<_, _≤_}
+use Prim.Native.Nat.{ℕ, _<_, _≤_}
 use mathlib.Core.Bool.{true, false}
 use mathlib.Core.List.{List, [], _∷_, map}
 use lib.IntN.{ℤ}
 use lib.ListN.{length}
-use Rattle.rules.specs.Limits.{textLimit, diagnosticLimit, diagnosticSize}
+use Rattle.rules.specs.Limits.{textLimit}
 use Rattle.rules.specs.Text.{Part, endOf, trim}
 use Rattle.rules.specs.Values.{clefOf, keyOf, meterOf}
 use Rattle.rules.specs.Records.{given, atLine, atField, Diagnostic}
@@ -30,13 +30,12 @@ lineOf number content = record { number = number; content = content }
 abbrev pub lineIn : List ℕ → ℕ → ℕ → ℕ → Line
 lineIn text number start end = lineOf number (trim (partAt text start end))
 
--- what reading a part of the text asks: it is within, and there is room for 1,024 diagnostics
-pub record Fit (text : List ℕ) (start end number : ℕ) (scratch : List ℤ) : Type 0 where
+-- what reading a part of the text asks: it is within
+pub record Fit (text : List ℕ) (start end number : ℕ) : Type 0 where
   pub order : start ≤ end
   pub within : end ≤ length text
   pub short : length text ≤ textLimit
   pub numbered : number < wordLimit
-  pub room : diagnosticLimit * diagnosticSize ≤ length scratch
 
 -- ---- fields
 
@@ -58,9 +57,9 @@ withCount n s = record { attributes = s .attributes; present = s .present; start
 
 -- what a field sets: an attribute or the data value
 abbrev pub fieldSet : FieldKey → Part → Fields → Fields
-fieldSet Clef value s = withAttributes (clefSet (value .bytes) (s .attributes)) s
-fieldSet Keysig value s = withAttributes (keySet (value .bytes) (s .attributes)) s
-fieldSet Timesig value s = withAttributes (meterSet (value .bytes) (s .attributes)) s
+fieldSet Clef value s = withAttributes (clefSet (clefOf (value .bytes)) (s .attributes)) s
+fieldSet Keysig value s = withAttributes (keySet (keyOf (value .bytes)) (s .attributes)) s
+fieldSet Timesig value s = withAttributes (meterSet (meterOf (value .bytes)) (s .attributes)) s
 fieldSet Data value s = record { attributes = s .attributes; present = true; start = value .start; end = endOf value; diagnostics = s .diagnostics }
 fieldSet Other value s = s
 

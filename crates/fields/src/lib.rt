@@ -2,9 +2,9 @@
 ghost use mathlib.Core.Path.{_≡_};
 ghost use mathlib.Core.Bool.{true};
 ghost use mathlib.Core.List.{map};
-ghost use Prim.Native.Nat.{_*_, _<_, _≤_};
+ghost use Prim.Native.Nat.{_<_, _≤_};
 ghost use lib.ListN.{length};
-ghost use Rattle.rules.specs.Limits.{textLimit, diagnosticLimit, diagnosticSize};
+ghost use Rattle.rules.specs.Limits.{textLimit};
 ghost use Rattle.rules.specs.Text.{trim};
 ghost use Rattle.rules.specs.Fields.{isField, linesOf, inFieldForm, fieldsAfter, linesDiagnosed, fieldsOf, fieldsDiagnosed};
 ghost use Rattle.rules.specs.Words.{diagnosticWords, zeros};
@@ -105,15 +105,15 @@ fn set_field(fields: Fields, key: FieldKey, text: &[u8], start: usize, end: usiz
     let mut next = fields;
     match key {
         FieldKey::Clef => {
-            next.attributes = set_clef(attributes, value);
+            next.attributes = set_clef(attributes, clef_of(value));
             next
         }
         FieldKey::Keysig => {
-            next.attributes = set_key(attributes, value);
+            next.attributes = set_key(attributes, key_of(value));
             next
         }
         FieldKey::Timesig => {
-            next.attributes = set_time(attributes, value);
+            next.attributes = set_time(attributes, meter_of(value));
             next
         }
         FieldKey::Data => {
@@ -135,7 +135,7 @@ fn read_field(
     fields: Fields,
     scratch: &mut [i32],
 ) -> Fields
-    requires { ⌜ Fit (now text) start end (number .0) (now scratch) × (isField (partAt (now text) start end .bytes) ≡ true) ⌝ }
+    requires { ⌜ Fit (now text) start end (number .0) × (isField (partAt (now text) start end .bytes) ≡ true) ⌝ }
     ensures { λ r. ⌜ (r ≡ lineNext (lineOf (number .0) (partAt (now (text .entry)) start end)) fields) × (now (scratch .exit) ≡ cellsNext (lineOf (number .0) (partAt (now (text .entry)) start end)) fields (now (scratch .entry))) ⌝ }
 {
     let line = &text[start..end];
@@ -161,7 +161,7 @@ fn read_line(
     fields: Fields,
     scratch: &mut [i32],
 ) -> Fields
-    requires { ⌜ Fit (now text) start end (number .0) (now scratch) ⌝ }
+    requires { ⌜ Fit (now text) start end (number .0) ⌝ }
     ensures { λ r. ⌜ (r ≡ lineNext (lineIn (now (text .entry)) (number .0) start end) fields) × (now (scratch .exit) ≡ cellsNext (lineIn (now (text .entry)) (number .0) start end) fields (now (scratch .entry))) ⌝ }
 {
     let line = trim(text, start, end);
@@ -196,7 +196,7 @@ fn no_fields() -> Fields
 
 // The fields of a text, its diagnostics stored.
 pub fn read_fields(text: &[u8], scratch: &mut [i32]) -> Fields
-    requires { ⌜ (length (now text) ≤ textLimit) × (diagnosticLimit * diagnosticSize ≤ length (now scratch)) × (now scratch ≡ zeros (length (now scratch))) ⌝ }
+    requires { ⌜ (length (now text) ≤ textLimit) × (now scratch ≡ zeros (length (now scratch))) ⌝ }
     ensures { λ r. ⌜ Taken (now (text .entry)) (fieldsAfter (linesOf (now (text .entry)))) r × Diagnosed (length (now (scratch .entry))) (linesDiagnosed (linesOf (now (text .entry)))) (r .diagnostics) (now (scratch .exit)) ⌝ }
 {
     let mut fields = no_fields();
@@ -226,7 +226,7 @@ fn bare(size: usize) -> Fields
 
 // What a text sets, in field form or bare, its diagnostics stored.
 pub fn fields_of(text: &[u8], scratch: &mut [i32]) -> Fields
-    requires { ⌜ (length (now text) ≤ textLimit) × (diagnosticLimit * diagnosticSize ≤ length (now scratch)) × (now scratch ≡ zeros (length (now scratch))) ⌝ }
+    requires { ⌜ (length (now text) ≤ textLimit) × (now scratch ≡ zeros (length (now scratch))) ⌝ }
     ensures { λ r. ⌜ Taken (now (text .entry)) (fieldsOf (now (text .entry))) r × Diagnosed (length (now (scratch .entry))) (fieldsDiagnosed (now (text .entry))) (r .diagnostics) (now (scratch .exit)) ⌝ }
 {
     if in_field_form(text) {

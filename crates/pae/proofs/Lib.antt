@@ -3,3 +3,4 @@ pub mod Lists
 pub mod Local
 pub mod Walk
 pub mod PromiseLaws
+pub mod ReadWalk

@@ -1,16 +1,16 @@
 -- The promise of `pae_read` from that of `read` over words. Assumes nothing.
-use Prim.Native.Nat.{ℕ, zero, suc, _+_, _-_, _*_, _≤_}
+use Prim.Native.Nat.{ℕ, zero, suc, _+_, _-_, _*_, _/_, _≤_}
 use native.Mathlib.Numerals.{unary-clauses}
 use native.Mathlib.Omega.{arith}
-use mathlib.Core.Path.{_≡_, refl, sym, ap, _∙_}
-use mathlib.Core.Bool.{Bool, true, false, not}
+use mathlib.Core.Path.{_≡_, refl, sym, ap, subst, _∙_}
+use mathlib.Core.Bool.{Bool, true, false, not, cond}
 use mathlib.Core.Option.{Option, none, some}
 use mathlib.Core.List.{List, [], _∷_, _++_}
 use lib.IntN.{ℤ, pos}
-use lib.ListN.{length, take, drop, getD, length-append, replicate-append-replicate}
+use lib.ListN.{length, take, drop, getD, length-append, length-drop, replicate-append-replicate}
 use lib.Dec.{leb, ltb}
 use lib.Seq.{take-add, take-at}
-use borrow.Author.Tests.{ltb-false}
+use borrow.Author.Tests.{ltb-false, leb-false}
 use Rattle.rules.specs.Limits.{textLimit, diagnosticLimit, diagnosticSize}
 use Rattle.rules.specs.Text.{isBlank, every, has}
 use Rattle.rules.specs.Fields.{fieldsOf, dataOf}
@@ -19,6 +19,7 @@ use Rattle.rules.specs.Records.{_or_, isSome, given}
 use Rattle.rules.specs.Refusals.{Limits, Refusal, refusal, firstFailing, dataRefusal, refusalOf}
 use Rattle.rules.specs.Reading.{Lent, limits, diagnosticsOf, accepted, refused, reading}
 use Rattle.rules.specs.Words.{zeros, padded, cells, diagnosticWords, firstOnes, diagnosticCells}
+use Rattle.records.specs.Diagnostics.{heldCells}
 use Rattle.records.proofs.CellLaws.{length-cells}
 use Rattle.records.proofs.DiagnosticLaws.{length-diagnostic}
 use Rattle.reading.specs.declared.read.Reading.{Reading}
@@ -66,6 +67,17 @@ words-records ws (suc c) h =
 
 -- ---- what is stored
 
+-- where all find room, they stand in the scratch
+held-all : (ds : List rules.Diagnostic) (size : ℕ) → length (firstOnes ds) * diagnosticSize ≤ size → heldCells size ds ≡ padded size (diagnosticCells ds)
+held-all ds size h = ap (λ (k : ℕ). padded size (cells diagnosticWords (drop k ds))) (go (leb diagnosticLimit (size / diagnosticSize)) refl)
+  where
+    many : length (firstOnes ds) ≡ length ds - (length ds - diagnosticLimit)
+    many = length-drop (length ds - diagnosticLimit) ds
+
+    go : (b : Bool) → leb diagnosticLimit (size / diagnosticSize) ≡ b → length ds - cond b diagnosticLimit (size / diagnosticSize) ≡ length ds - diagnosticLimit
+    go true e = refl
+    go false e = let f = leb-false diagnosticLimit (size / diagnosticSize) e in omega (arith, f, h, many)
+
 -- an accepted text has 1,024 cells or more
 enough-lent : (text : List ℕ) (lent : Limits) → refusalOf text lent ≡ none → diagnosticLimit ≤ lent .diagnostics
 unfolding refusalOf
@@ -97,10 +109,10 @@ module _ (text : List ℕ) (lent : Lent) where
       ∙ (λ i. (words-records z (length ds) (omega (arith, l, length-append (cells diagnosticWords ds) (zeros (size - length (cells diagnosticWords ds))))) ∙ take-at (cells diagnosticWords ds) (zeros (size - length (cells diagnosticWords ds))) (length ds * diagnosticSize) l) i ++ words-blank (n - length ds) i)
       ∙ ap (λ (m : ℕ). cells diagnosticWords ds ++ zeros m) left
 
-  listed : (size : ℕ) (o : Option Refusal) → refusalOf text (limits lent) ≡ o
-      → words (published (blanks (lent .diagnostics)) (given o (padded size (diagnosticCells (diagnosticsOf text))) (λ r. zeros size)) (given o (accepted text lent) (refused lent) .diagnostics)) ≡ given o (accepted text lent) (refused lent) .diagnosticCells
-  listed size none e = stored size (enough-lent text (limits lent) e)
-  listed size (some r) e = words-blank (lent .diagnostics)
+  listed : (size : ℕ) (o : Option Refusal) → refusalOf text (limits lent) ≡ o → given o (accepted text lent) (refused lent) .diagnostics * diagnosticSize ≤ size
+      → words (published (blanks (lent .diagnostics)) (given o (heldCells size (diagnosticsOf text)) (λ r. zeros size)) (given o (accepted text lent) (refused lent) .diagnostics)) ≡ given o (accepted text lent) (refused lent) .diagnosticCells
+  listed size none e h = ap (λ (ws : List ℤ). words (published (blanks (lent .diagnostics)) ws (length ds))) (held-all (diagnosticsOf text) size h) ∙ stored size (enough-lent text (limits lent) e)
+  listed size (some r) e h = words-blank (lent .diagnostics)
 
 -- ---- the promise
 
@@ -109,10 +121,11 @@ unfolding reading
 few-diagnostics {text} {lent} p = rw (p .answered .diagnosticCount) (few text lent (refusalOf text (limits lent)))
 
 pub promise : {text : List ℕ} {lent : Lent} {size : ℕ} {r : Reading} {notes bars figure scratch : List ℤ} {diagnostics : List Diagnostic} → Promised text lent size r notes bars figure scratch
-    → diagnostics ≡ published (blanks (lent .diagnostics)) scratch (r .diagnostics) → Promise text lent r notes bars figure diagnostics
+    → r .diagnostics * diagnosticSize ≤ size → diagnostics ≡ published (blanks (lent .diagnostics)) scratch (r .diagnostics) → Promise text lent r notes bars figure diagnostics
 unfolding reading
-promise {text} {lent} {size} p e =
-    let a = p .answered in record {
+promise {text} {lent} {size} p h e =
+    let a = p .answered in
+    let all = subst (λ (c : ℕ). c * diagnosticSize ≤ size) (a .diagnosticCount) h in record {
       number = a .number;
       place = a .place;
       noteCount = a .noteCount;
@@ -121,6 +134,6 @@ promise {text} {lent} {size} p e =
       noteCells = a .noteCells;
       barCells = a .barCells;
       figureCells = a .figureCells;
-      diagnosticCells = ap words e ∙ (λ i. words (published (blanks (lent .diagnostics)) (a .diagnosticCells i) (a .diagnosticCount i))) ∙ listed text lent size (refusalOf text (limits lent)) refl;
+      diagnosticCells = ap words e ∙ (λ i. words (published (blanks (lent .diagnostics)) (a .diagnosticCells i) (a .diagnosticCount i))) ∙ listed text lent size (refusalOf text (limits lent)) refl all;
       demand3 = p .demand3;
     }

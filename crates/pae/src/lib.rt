@@ -11,6 +11,9 @@ use reading::read::read;
 use records::cells::DIAGNOSTIC;
 use records::diagnostic::DIAGNOSTICS;
 
+// So many diagnostics find room in the scratch that is tried first: few texts have more.
+const NEAR: usize = 64;
+
 // Number d1 to d19; place kind and place; value kind, start and end.
 #[repr(C)]
 pub struct Diagnostic {
@@ -85,6 +88,23 @@ fn publish(words: &[i32], n: usize, list: &mut [Diagnostic])
     }
 }
 
+// Reads with scratch for every diagnostic that is stored.
+fn read_all(
+    text: &[u8],
+    notes: &mut [i32],
+    bars: &mut [i32],
+    figure: &mut [i32],
+    diagnostics: &mut [Diagnostic],
+) -> Reading
+    ensures { λ r. ⌜ Promise (now (text .entry)) (lentWords (now (notes .entry)) (now (bars .entry)) (now (figure .entry)) (length (now (diagnostics .entry)))) r (now (notes .exit)) (now (bars .exit)) (now (figure .exit)) (now (diagnostics .exit)) ⌝ }
+{
+    let mut scratch = [0; DIAGNOSTICS * DIAGNOSTIC];
+    let r = read(text, notes, bars, figure, &mut scratch, diagnostics.len());
+    clear(diagnostics);
+    publish(&scratch, r.diagnostics as usize, diagnostics);
+    r
+}
+
 // Reads a text of any bytes and any length into lent buffers of any length: a finished reading, or one refusal after which every lent cell is 0.
 #[no_mangle]
 pub extern "C" fn pae_read(
@@ -96,8 +116,11 @@ pub extern "C" fn pae_read(
 ) -> Reading
     ensures { λ r. ⌜ Promise (now (text .entry)) (lentWords (now (notes .entry)) (now (bars .entry)) (now (figure .entry)) (length (now (diagnostics .entry)))) r (now (notes .exit)) (now (bars .exit)) (now (figure .exit)) (now (diagnostics .exit)) ⌝ }
 {
-    let mut scratch = [0; DIAGNOSTICS * DIAGNOSTIC];
+    let mut scratch = [0; NEAR * DIAGNOSTIC];
     let r = read(text, notes, bars, figure, &mut scratch, diagnostics.len());
+    if NEAR < r.diagnostics as usize {
+        return read_all(text, notes, bars, figure, diagnostics);
+    }
     clear(diagnostics);
     publish(&scratch, r.diagnostics as usize, diagnostics);
     r

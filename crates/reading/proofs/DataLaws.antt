@@ -17,7 +17,7 @@ use Rattle.rules.specs.Diagnostics.{dataDiagnosed}
 use Rattle.rules.specs.Refusals.{refusal, tokensRefusal}
 use Rattle.rules.specs.Words.{diagnosticWords}
 use Rattle.records.proofs.CellLaws.{padded-none}
-use Rattle.values.specs.Rhythm.{Keeping, keptLimit, lengthIn, quarterPattern, firstOf}
+use Rattle.values.specs.Rhythm.{Keeping, keptLimit, quarterPattern, firstOf}
 use Rattle.values.specs.Pae.{freshPae}
 use Rattle.values.specs.declared.rhythm.Cursor.{Cursor}
 use Rattle.values.specs.declared.pae.Attributes.{Attributes}
@@ -27,8 +27,7 @@ use Rattle.decode.specs.declared.Token.{Token}
 use Rattle.decode.specs.declared.Token.the-variants as t
 use Rattle.decode.specs.Decode.{Decoded}
 use Rattle.steps.specs.Accidentals.{Table, cleared}
-use Rattle.steps.specs.Notes.{endsOf, joinsOf}
-use Rattle.steps.specs.Steps.{tableNext, stepped}
+use Rattle.steps.specs.Notes.{joinsOf}
 use Rattle.steps.specs.Relation.{Attributed, Stored, Barred}
 use Rattle.steps.proofs.TableLaws.{tabled-clear}
 use Rattle.simulation.proofs.GroupsLaws.{fresh-grouped}
@@ -39,18 +38,15 @@ use Rattle.storing.proofs.StepLaws.{fresh-stored, fresh-figured}
 use Rattle.checks.specs.declared.Room.{Room}
 use Rattle.checks.specs.Checks.{checkOf}
 use Rattle.diagnose.specs.Found.{countAfterAll, cellsAfterAll}
-use Rattle.remarks.specs.Remarks.{valueFrom}
 use Rattle.remarks.proofs.RemarkLaws.{openGroup}
-use Rattle.reading.specs.Cells.{notesNext, barsNext, heldNext}
-use Rattle.reading.specs.Rhythm.{takenNext, patternNext, cursorNext}
-use Rattle.reading.specs.Walk.{withDiagnostics, closingFor, remarked}
+use Rattle.reading.specs.Walk.{Hand, armed, withDiagnostics, closingFor, remarked}
 use Rattle.reading.specs.Data.{attributesIn, begun, items, Begins, DataRead}
 use Rattle.reading.proofs.HoldLaws.{Holds, refuses, goes-on, ended}
 
 module _ (data′ : List ℕ) (start : ℕ) (n : ℕ) (scratch₀ : List ℤ) (room : Room) where
   -- a fresh reading of cleared cells
   pub begins : {a : Attributes} {notes bars held : List ℤ} {st : Pae} {table : Table} {k : Keeping} {cursor : Cursor} (kept : List ℕ)
-      → Begins data′ start a notes bars held scratch₀ room → st ≡ begun a n → table ≡ cleared → length kept ≡ keptLimit → k ≡ quarterPattern kept → cursor ≡ firstOf (k .pattern)
+      → Begins data′ start a notes bars held room → st ≡ begun a n → table ≡ cleared → length kept ≡ keptLimit → k ≡ quarterPattern kept → cursor ≡ firstOf (k .pattern)
       → Holds data′ start (attributesIn (st .attributes)) n scratch₀ (length notes) (length bars) (length held) room 0 0 st table k cursor notes bars held scratch₀
   unfolding tokensRefusal stateAfter dataDiagnosed
   begins {a} {notes} {bars} {held} kept b e clear full quarter first = rw (e, clear, first) (record {
@@ -110,19 +106,21 @@ module _ (data′ : List ℕ) (start : ℕ) (n : ℕ) (scratch₀ : List ℤ) (r
       closes : token ≡ t.Marking m.GroupClose → st .groups .paren .noted ≡ true → closingFor token st notes ≡ rules.closingOf (openGroup (st .groups)) (stateAfter (attributesIn a) (w .before))
       closes e noted = ap (λ (x : Token). closingFor x st notes) e ∙ closing-read (stateAfter (attributesIn a) (w .before)) (w .related .stored) (openGroup (st .groups))
 
+      -- what its arm makes of what the walk holds
+      abbrev made : Hand
+      made = armed data′ at end joined (record { st = st; table = table; pattern = pattern; cursor = cursor; notes = notes; bars = bars; figure = held }) token
+
       -- every check passes
       module _ (passes : checkOf token st joined notes room ≡ 0) (lends : room .notes * noteSize ≤ size) (lendsBars : room .bars * barSize ≤ barsSize) where
         abbrev found : List (List ℤ)
         found = remarked token st notes data′ start at end
 
-        pub advances : {stepped′ st′ : Pae} {count : ℕ} {table′ : Table} {k : Keeping} {cursor′ : Cursor} {notes′ bars′ held′ scratch′ : List ℤ}
-            → count ≡ countAfterAll (st .diagnostics) found → scratch′ ≡ cellsAfterAll scratch (st .diagnostics) found → table′ ≡ tableNext token (st .voice) table
-            → stepped′ ≡ stepped token (valueFrom data′ at end) joined (endsOf (st .counts) notes) st → st′ ≡ withDiagnostics count stepped′
-            → k ≡ patternNext token data′ at end pattern → cursor′ ≡ cursorNext token (k .pattern) (takenNext token joined (st .voice) data′ pattern cursor .next)
-            → notes′ ≡ notesNext token st joined (lengthIn (takenNext token joined (st .voice) data′ pattern cursor)) table (at + 1) held notes → bars′ ≡ barsNext token st bars → held′ ≡ heldNext token st notes held
+        pub advances : {st′ : Pae} {count : ℕ} {table′ : Table} {k : Keeping} {cursor′ : Cursor} {notes′ bars′ held′ scratch′ : List ℤ}
+            → count ≡ countAfterAll (st .diagnostics) found → scratch′ ≡ cellsAfterAll scratch (st .diagnostics) found
+            → table′ ≡ made .table → st′ ≡ withDiagnostics count (made .st) → k ≡ made .pattern → cursor′ ≡ made .cursor → notes′ ≡ made .notes → bars′ ≡ made .bars → held′ ≡ made .figure
             → length bars′ ≡ length bars → length held′ ≡ length held → length scratch′ ≡ length scratch
             → Holds data′ start (attributesIn a) n scratch₀ size barsSize figureSize room 0 end st′ table′ k cursor′ notes′ bars′ held′ scratch′
         unfolding remarked
-        advances e1 e2 e3 e4 e5 e6 e7 e8 e9 e10 l1 l2 l3 =
-            rw (e5, e4, e1, e7, e6, e2, e3, e8, e9, e10) (goes-on data′ start (attributesIn a) n scratch₀ size barsSize figureSize room 0 w inside end ends token decoded joined joins passes lends lendsBars (closingFor token st notes) closes
-            (ap length (sym e9) ∙ l1) (ap length (sym e10) ∙ l2) (ap length (sym e2) ∙ l3))
+        advances e1 e2 e3 e4 e5 e6 e7 e8 e9 l1 l2 l3 =
+            rw (e4, e1, e2, e3, e5, e6, e7, e8, e9) (goes-on data′ start (attributesIn a) n scratch₀ size barsSize figureSize room 0 w inside end ends token decoded joined joins passes lends lendsBars (closingFor token st notes) closes
+            (ap length (sym e8) ∙ l1) (ap length (sym e9) ∙ l2) (ap length (sym e2) ∙ l3))

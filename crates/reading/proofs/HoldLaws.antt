@@ -24,7 +24,7 @@ use Rattle.rules.specs.Words.{diagnosticWords}
 use Rattle.text.proofs.PartLaws.{next-element}
 use Rattle.text.proofs.TokenLaws.{token-some, token-within}
 use Rattle.text.proofs.WalkLaws.{tokenAt, items-step, items-end}
-use Rattle.values.specs.Rhythm.{Keeping, lengthIn, Standing}
+use Rattle.values.specs.Rhythm.{Keeping, Standing}
 use Rattle.values.specs.declared.rhythm.Cursor.{Cursor}
 use Rattle.values.specs.declared.pae.Counts.{Counts}
 use Rattle.values.specs.declared.pae.Pae.{Pae}
@@ -36,9 +36,9 @@ use Rattle.decode.specs.Decode.{tokenIn, Fine, Decoded}
 use Rattle.steps.specs.State.{hasContent, openLength, repeatedCount}
 use Rattle.steps.specs.Accidentals.{Table}
 use Rattle.steps.specs.Notes.{endsOf, joinsOf}
-use Rattle.steps.specs.Steps.{countsNext, figureNext, tableNext, stepped}
-use Rattle.steps.specs.Relation.{numberIn, countIn, Stored}
-use Rattle.steps.proofs.CountLaws.{length-open, content, first-below, last-below, length-notes, ends-agree, joins-agree}
+use Rattle.steps.specs.Steps.{countsNext, figureNext, stepped}
+use Rattle.steps.specs.Relation.{numberIn, Stored}
+use Rattle.steps.proofs.CountLaws.{length-open, content, first-below, last-below, blank-behind, length-notes, ends-agree, joins-agree}
 use Rattle.simulation.proofs.Choices.{pick}
 use Rattle.simulation.proofs.Items.{itemIn, item-decoded}
 use Rattle.storing.proofs.FigureLaws.{figure-count, figure-fits}
@@ -51,13 +51,11 @@ use Rattle.diagnose.specs.Found.{countAfterAll, cellsAfterAll}
 use Rattle.remarks.specs.Remarks.{valueFrom, itemFrom, tokenFound}
 use Rattle.remarks.proofs.RemarkLaws.{openGroup, remarks-agree}
 use Rattle.records.specs.Diagnostics.{countAfter, diagnosed}
-use Rattle.reading.specs.Walk.{withDiagnostics}
+use Rattle.reading.specs.Walk.{Hand, armed, withDiagnostics}
 use Rattle.records.specs.Notes.{markCountAt, marksAt}
-use Rattle.records.specs.Groups.{timedCount}
 use Rattle.records.proofs.CellLaws.{record-word}
-use Rattle.reading.specs.Cells.{recordFrom, countFrom, closingIn, notesNext, barsNext, heldNext}
-use Rattle.reading.specs.Ready.{Within, HasPlace, Asked, Ready}
-use Rattle.reading.specs.Rhythm.{takenNext, patternNext, cursorNext}
+use Rattle.reading.specs.Cells.{notesNext}
+use Rattle.reading.specs.Ready.{Within, HasPlace, Blank, Asked, Ready}
 use Rattle.reading.proofs.TokenLaws as one
 use Rattle.reading.proofs.TokenLaws.{Related, token-related}
 use Rattle.reading.proofs.TakingLaws.{rhythm-agrees, taken-agrees}
@@ -170,6 +168,10 @@ module _ (data′ : List ℕ) (start : ℕ) (k : rules.Attributes) (count₀ : �
       abbrev item : Item
       item = itemIn (at + 1) (start + at) (end - at) (getD data′ at 0) (valueFrom data′ at end) token
 
+      -- what its arm makes of what the walk holds
+      abbrev made : Hand
+      made = armed data′ at end joined (record { st = st; table = table; pattern = pattern; cursor = cursor; notes = notes; bars = bars; figure = held }) token
+
       pub further : at < end
       further = omega (arith, token-some data′ at inside)
 
@@ -262,6 +264,9 @@ module _ (data′ : List ℕ) (start : ℕ) (k : rules.Attributes) (count₀ : �
           place : (n : ℕ) → one.Fits size st n → HasPlace n (st .counts) notes
           place n h = (omega (arith, h .0, length-notes (w .related .stored)), h .1)
 
+          blank : one.Fits size st 1 → Blank (st .counts) notes
+          blank h = blank-behind (w .related .stored) (omega (arith, h .0))
+
           asked : (x : Token) → Fine (getD data′ at 0) x → checkOf x st joined notes room ≡ 0 → Asked x st joined notes bars held
           asked t.Clef h e = tt
           asked t.Key h e = tt
@@ -269,17 +274,13 @@ module _ (data′ : List ℕ) (start : ℕ) (k : rules.Attributes) (count₀ : �
           asked (t.Octave octave) h e = tt
           asked t.Duration h e = tt
           asked (t.Accidental alter) h e = tt
-          asked (t.Letter name) h e = (
-            h,
-            record {
-              within = within-here;
-              octave = w .related .voice .low;
-              joins = λ j. (joins-some (st .voice) (st .counts) notes (joins ∙ j), roomy (t.Letter name) e .0 j);
-              opens = λ j. place 1 (roomy (t.Letter name) e .1 j);
-            },
-          )
+          asked (t.Letter name) h e = record {
+            within = within-here;
+            joins = λ j. (joins-some (st .voice) (st .counts) notes (joins ∙ j), roomy (t.Letter name) e .0 j);
+            opens = λ j. let r = roomy (t.Letter name) e .1 j in (place 1 r, blank r);
+          }
           asked t.Chord h e = tt
-          asked t.Rest h e = record { within = within-here; place = place 1 (roomy t.Rest e) }
+          asked t.Rest h e = let r = roomy t.Rest e in (record { within = within-here; place = place 1 r }, blank r)
           asked (t.Barline barline) h e = (λ f. omega (arith, roomy (t.Barline barline) e f, w .barsLength), omega (arith, w .related .stored .capped))
           asked (t.Grace slashed) h e = tt
           asked (t.GraceGroup begins) h e = tt
@@ -296,19 +297,8 @@ module _ (data′ : List ℕ) (start : ℕ) (k : rules.Attributes) (count₀ : �
           asked (t.Marking m.GroupCount) h e = tt
           asked (t.Marking m.GroupClose) h e = record {
             within = within-here;
-            count = w .related .groups .count;
-            room = λ n c. checks.fermata-ready st joined notes room (w .related .stored) n (reached c) e .1;
+            room = λ n c. checks.fermata-ready st joined notes room (w .related .stored) n c e .1;
           }
-            where
-              closed : rules.Closing
-              closed = rules.closing (timedCount (drop (recordFrom (st .groups .paren) (st .counts) * noteSize) notes) (countFrom (st .groups .paren) (st .counts))) (countIn (st .groups .count))
-
-              reached : closingIn st notes ≡ rules.fermata → closed ≡ rules.fermata
-              reached = go (leb (st .groups .paren .length) (openLength (st .counts)))
-                where
-                  go : (b : Bool) → cond b closed rules.nothing ≡ rules.fermata → closed ≡ rules.fermata
-                  go true q = q
-                  go false q = let z : _≡_ {A = ℕ} 0 1 = cc in absurd (omega arith)
           asked (t.Marking m.Tie) h e = tt
           asked (t.Marking m.Trill) h e = record { within = within-here; room = λ f. let r = checks.trill-ready st joined notes room (w .related .stored) f e in (rw (record-word noteSize notes (st .counts .notes - 1) markCountAt (omega arith)) (r .0), rw (record-word noteSize notes (st .counts .notes - 1) marksAt (omega arith)) (r .1)) }
           asked t.Blank h e = tt
@@ -329,10 +319,8 @@ module _ (data′ : List ℕ) (start : ℕ) (k : rules.Attributes) (count₀ : �
               (content (s .openBar) (w .related .stored)) (length-open (w .related .stored)) (ap (λ (n : ℕ). eqb n 0) (figure-count (w .related .figured)) ∙ no-elements (s .figure))
               (ap (λ (n : ℕ). eqb n 0) (w .related .stored .bars) ∙ no-elements (s .bars)) (ends-agree (s .openBar) (w .related .stored)) (getD data′ at 0) token closes
 
-          pub goes-on : length (barsNext token st bars) ≡ length bars → length (heldNext token st notes held) ≡ length held → length (cellsAfterAll scratch (st .diagnostics) found) ≡ length scratch
-              → let k′ = patternNext token data′ at end pattern in let v = takenNext token joined (st .voice) data′ pattern cursor in
-              Holds end (withDiagnostics (countAfterAll (st .diagnostics) found) (stepped token (valueFrom data′ at end) joined (endsOf (st .counts) notes) st)) (tableNext token (st .voice) table)
-              k′ (cursorNext token (k′ .pattern) (v .next)) (notesNext token st joined (lengthIn v) table (at + 1) held notes) (barsNext token st bars) (heldNext token st notes held) (cellsAfterAll scratch (st .diagnostics) found)
+          pub goes-on : length (made .bars) ≡ length bars → length (made .figure) ≡ length held → length (cellsAfterAll scratch (st .diagnostics) found) ≡ length scratch
+              → Holds end (withDiagnostics (countAfterAll (st .diagnostics) found) (made .st)) (made .table) (made .pattern) (made .cursor) (made .notes) (made .bars) (made .figure) (cellsAfterAll scratch (st .diagnostics) found)
           unfolding stateAfter dataDiagnosed stepped
           goes-on lb lf ls = record {
             before = item ∷ w .before;
@@ -350,15 +338,13 @@ module _ (data′ : List ℕ) (start : ℕ) (k : rules.Attributes) (count₀ : �
             scratchLength = ls ∙ w .scratchLength;
           }
             where
-              plain : Related size barsSize (step item s) (stepped token (valueFrom data′ at end) joined (endsOf (st .counts) notes) st) (tableNext token (st .voice) table)
-                  (notesNext token st joined (rules.nextValue s) table (at + 1) held notes) (barsNext token st bars) (heldNext token st notes held)
+              plain : Related size barsSize (step item s) (made .st) (made .table) (notesNext token st joined (rules.nextValue s) table (at + 1) held notes) (made .bars) (made .figure)
               plain = token-related (at + 1) (start + at) (end - at) (getD data′ at 0) (valueFrom data′ at end) (w .related) joined joins (rules.nextValue s) refl token (decoded .1) (roomy token passes)
 
-              notes-are : notesNext token st joined (rules.nextValue s) table (at + 1) held notes ≡ notesNext token st joined (lengthIn (takenNext token joined (st .voice) data′ pattern cursor)) table (at + 1) held notes
+              notes-are : notesNext token st joined (rules.nextValue s) table (at + 1) held notes ≡ made .notes
               notes-are = sym (taken-agrees (at + 1) (start + at) (end - at) (getD data′ at 0) (valueFrom data′ at end) data′ s st (w .rhythm) (w .related .voice) joined rules-join token table held notes)
 
-              related-on : Related size barsSize (step item s) (withDiagnostics (countAfterAll (st .diagnostics) found) (stepped token (valueFrom data′ at end) joined (endsOf (st .counts) notes) st)) (tableNext token (st .voice) table)
-                  (notesNext token st joined (lengthIn (takenNext token joined (st .voice) data′ pattern cursor)) table (at + 1) held notes) (barsNext token st bars) (heldNext token st notes held)
+              related-on : Related size barsSize (step item s) (withDiagnostics (countAfterAll (st .diagnostics) found) (made .st)) (made .table) (made .notes) (made .bars) (made .figure)
               related-on = record {
                 voice = plain .voice;
                 attributes = plain .attributes;

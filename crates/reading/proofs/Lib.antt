@@ -3,6 +3,6 @@ pub mod ClosingLaws
 pub mod TokenLaws
 pub mod TakingLaws
 pub mod HoldLaws
-pub mod OtherLaws
+pub mod FrameLaws
 pub mod DataLaws
 pub mod ReadingLaws

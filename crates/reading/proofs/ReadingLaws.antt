@@ -1,29 +1,28 @@
 -- The whole answer from its parts: the entry, the fields, the data and its end. Assumes nothing.
-use Prim.Native.Nat.{ℕ, zero, suc, _+_, _-_, _*_, _/_, _≤_}
+use Prim.Native.Nat.{ℕ, _+_, _-_, _*_, _/_, _≤_}
 use native.Mathlib.Omega.{arith}
 use mathlib.Core.Path.{_≡_, refl, sym, ap, _∙_}
-use mathlib.Core.Bool.{Bool, true, false, cond, _&&_, false≢true}
+use mathlib.Core.Bool.{Bool, true, false, cond, _&&_}
 use mathlib.Core.Option.{Option, none, some}
 use mathlib.Core.List.{List, [], _∷_, _++_}
 use lib.IntN.{ℤ, pos}
 use lib.ListN.{length, take, drop, length-take, length-drop, length-replicate}
 use lib.Dec.{eqb, leb}
-use borrow.Author.Tests.{eq-eqb, ne-eqb}
-use Rattle.rules.specs.Limits.{barSize, diagnosticLimit, diagnosticSize}
+use borrow.Author.Tests.{eq-eqb, ne-eqb, eqb-false}
+use Rattle.rules.specs.Limits.{barSize, diagnosticLimit}
 use Rattle.rules.specs.Text.{Part}
-use Rattle.rules.specs.Cut.{tokenSize}
-use Rattle.rules.specs.Tokens.{Item, itemAt, itemsAfter, itemsOf}
-use Rattle.rules.specs.Agreement.{All}
-use Rattle.rules.specs.Records.{_or_, isSome, given, isEmpty, Bar, notesOf, Diagnostic}
+use Rattle.rules.specs.Tokens.{Item, itemsAfter, itemsOf}
+use Rattle.rules.specs.Records.{_or_, given, isEmpty, Bar, notesOf, Diagnostic}
 use Rattle.rules.specs.Rules as rules
 use Rattle.rules.specs.Fields.{fieldsOf, fieldsDiagnosed, dataOf}
 use Rattle.rules.specs.Diagnostics.{dataDiagnosed}
-use Rattle.rules.specs.Refusals.{Limits, Refusal, refusal, tokenRefusal, tokensRefusal, overBars, endRefusal, dataRefusal, refusalOf}
+use Rattle.rules.specs.Refusals.{Refusal, refusal, tokenRefusal, tokensRefusal, overBars, endRefusal, dataRefusal, refusalOf}
 use Rattle.rules.specs.Reading.{Lent, limits, attributesOf, tokensOf, diagnosticsOf, Reading, accepted, refused, reading}
 use Rattle.rules.specs.Words as words
-use Rattle.rules.specs.Words.{zeros, padded, firstOnes, diagnosticCells}
+use Rattle.rules.specs.Words.{zeros, padded, firstOnes}
 use Rattle.theorems.proofs.Demand3.{demand3}
 use Rattle.text.specs.Parts.{partAt}
+use Rattle.records.specs.Diagnostics.{heldCells}
 use Rattle.values.specs.declared.pae.Attributes.{Attributes}
 use Rattle.values.specs.declared.pae.Counts.{Counts}
 use Rattle.steps.specs.State.{hasContent, barCounted}
@@ -32,8 +31,10 @@ use Rattle.steps.specs.Relation.{Attributed, Stored, Barred, Diagnosed}
 use Rattle.steps.proofs.BarLaws.{bars-closed}
 use Rattle.steps.proofs.StoredBar.{bar-stored}
 use Rattle.checks.specs.declared.Room.{Room}
-use Rattle.checks.specs.Checks.{failing, barCheck}
+use Rattle.checks.specs.declared.Stop.{Stop}
+use Rattle.checks.specs.Checks.{failing, barCheck, endCheck}
 use Rattle.checks.proofs.StoredLaws.{stored-count}
+use Rattle.checks.proofs.TestLaws.{bar-passes}
 use Rattle.checks.proofs.CheckLaws.{bars-agree, bars-ready}
 use Rattle.diagnose.proofs.FoundLaws.{all-stored}
 use Rattle.entry.specs.Entry.{entryCheck}
@@ -92,7 +93,7 @@ module _ (text : List ℕ) (lent : Lent) where
         noteCells = ap (λ (x : Reading). x .noteCells) q;
         barCells = ap (λ (x : Reading). x .barCells) q;
         figureCells = ap (λ (x : Reading). x .figureCells) q;
-        diagnosticCells = sym (ap (λ (o : Option Refusal). given o (padded size (diagnosticCells (diagnosticsOf text))) (λ r. zeros size)) e);
+        diagnosticCells = sym (ap (λ (o : Option Refusal). given o (heldCells size (diagnosticsOf text)) (λ r. zeros size)) e);
       }
 
   pub refused-by : (size : ℕ) {number place : ℕ} {r : code.Reading} {notes bars figure scratch : List ℤ} → r ≡ refusedWith number place → notes ≡ zeros (lent .notes) → bars ≡ zeros (lent .bars) → figure ≡ zeros (lent .figure) → scratch ≡ zeros size
@@ -118,38 +119,6 @@ unfolding tokensRefusal
 tokens-same room n k [] = refl
 tokens-same room n k (x ∷ xs) = ap (λ (o : Option Refusal). o or given (tokenRefusal (walk.lent room) (x .token) (rules.stateAfter k xs)) none (λ m. some (refusal m (x .place)))) (tokens-same room n k xs)
 
--- ---- a token's place is within the data
-
-abbrev Within : ℕ → List Item → Type 0
-Within n xs = All (λ x. x .place ≤ n) xs
-
-places-within : (n skip place offset : ℕ) (bs : List ℕ) (before : List Item) → place + length bs ≤ n + 1 → Within n before → Within n (itemsAfter skip place offset bs before)
-unfolding itemsAfter itemAt
-places-within n skip place offset [] before h w = w
-places-within n zero place offset (b ∷ bs) before h w = places-within n (tokenSize (b ∷ bs) - 1) (place + 1) (offset + 1) bs (itemAt place offset b bs ∷ before) (omega arith) (omega arith, w)
-places-within n (suc skip) place offset (b ∷ bs) before h w = places-within n skip (place + 1) (offset + 1) bs before (omega arith) w
-
--- and so is the place of a refusal
-refused-within : (l : Limits) (k : rules.Attributes) (n : ℕ) (xs : List Item) → Within n xs → {r : Refusal} → tokensRefusal l k xs ≡ some r → r .place ≤ n
-unfolding tokensRefusal
-refused-within l k n [] w e = absurd (false≢true (ap isSome e))
-refused-within l k n (x ∷ xs) w {r} e = first (tokensRefusal l k xs) refl (λ q. refused-within l k n xs (w .1) q) e
-  where
-    here : (o : Option ℕ) → given o none (λ m. some (refusal m (x .place))) ≡ some r → r .place ≤ n
-    here none e = absurd (false≢true (ap isSome e))
-    here (some m) e = let q : x .place ≡ r .place = ap (λ (o : Option Refusal). given o 0 (λ y. y .place)) e in omega (arith, w .0)
-
-    first : (o : Option Refusal) → tokensRefusal l k xs ≡ o → (tokensRefusal l k xs ≡ some r → r .place ≤ n) → o or given (tokenRefusal l (x .token) (rules.stateAfter k xs)) none (λ m. some (refusal m (x .place))) ≡ some r → r .place ≤ n
-    first none q more e = here (tokenRefusal l (x .token) (rules.stateAfter k xs)) e
-    first (some y) q more e = more (q ∙ e)
-
--- the place at which the walk stops
-pub stopped-within : {bytes : List ℕ} {start n size barsSize : ℕ} {a : Attributes} {scratch₀ notes bars scratch : List ℤ} {room : Room} {r : Outcome} → DataRead bytes start a n scratch₀ size barsSize room r notes bars scratch
-    → (r .number ≡ 0 → ⊥) → r .place ≤ length bytes
-stopped-within {bytes} {start} {a = a} {room = room} {r} d h =
-    refused-within (walk.lent room) (attributesIn a) (length bytes) (itemsAfter 0 1 start bytes []) (places-within (length bytes) 0 1 start bytes [] (omega arith) tt) {r = refusal (r .number) (r .place)}
-    (d .stops ∙ ap (λ (b : Bool). cond b none (some (refusal (r .number) (r .place)))) (ne-eqb (r .number) 0 h))
-
 -- ---- a text with data
 
 empty-agrees : {A : Type 0} (l : List A) (n : ℕ) → length l ≡ n → isEmpty l ≡ eqb n 0
@@ -157,13 +126,14 @@ empty-agrees [] n e = sym (eq-eqb n 0 (sym e))
 empty-agrees (x ∷ l) n e = sym (ne-eqb n 0 (λ z. omega arith))
 
 -- whether the check of the end fails
-bar-fails : (b : Bool) → (failing b 12 ≡ 0 → ⊥) → b ≡ true
-bar-fails true h = refl
-bar-fails false h = absurd (h refl)
-
-bar-passes : (b : Bool) → failing b 12 ≡ 0 → b ≡ false
-bar-passes true h = absurd (omega arith)
-bar-passes false h = refl
+-- where nothing stops the end, the bar has room and a record is stored
+pub end-passes : (c : Counts) (lent size : ℕ) {k : Stop} → k ≡ endCheck c lent size → k .number ≡ 0 → (barCheck c lent ≡ 0) × (c .notes ≡ 0 → ⊥)
+end-passes c lent size {k} is z = go (hasContent c && leb lent (c .bars)) (eqb (c .notes) 0) refl (ap (λ (x : Stop). x .number) (sym is) ∙ z)
+  where
+    go : (over empty : Bool) → eqb (c .notes) 0 ≡ empty → cond {A = Stop} over (record { number = 12; place = size + 1 }) (cond empty (record { number = 13; place = 0 }) (record { number = 0; place = 0 })) .number ≡ 0 → (failing over 12 ≡ 0) × (c .notes ≡ 0 → ⊥)
+    go true empty e z = absurd (omega (arith, z))
+    go false true e z = absurd (omega (arith, z))
+    go false false e z = (refl, eqb-false (c .notes) 0 e)
 
 -- the counts after the end
 pub counted-notes : (c : Counts) → barCounted c .notes ≡ c .notes
@@ -184,11 +154,11 @@ counted-bars c = go (hasContent c)
 pub few-first : (ds : List Diagnostic) → length (firstOnes ds) ≤ diagnosticLimit
 few-first ds = rw length-drop (omega arith)
 
-pub few-diagnosed : {bytes : List ℕ} {start n size barsSize scratchSize : ℕ} {a : Attributes} {scratch₀ notes bars scratch : List ℤ} {room : Room} {r : Outcome} {ds : List Diagnostic} → diagnosticLimit * diagnosticSize ≤ scratchSize → Diagnosed scratchSize ds n scratch₀
+pub few-diagnosed : {bytes : List ℕ} {start n size barsSize scratchSize : ℕ} {a : Attributes} {scratch₀ notes bars scratch : List ℤ} {room : Room} {r : Outcome} {ds : List Diagnostic} → Diagnosed scratchSize ds n scratch₀
     → DataRead bytes start a n scratch₀ size barsSize room r notes bars scratch → r .number ≡ 0 → r .st .diagnostics ≤ diagnosticLimit
-few-diagnosed {bytes} {start} {a = a} {ds = ds} lends w d h =
+few-diagnosed {bytes} {start} {a = a} {ds = ds} w d h =
     let new = dataDiagnosed (attributesIn a) (itemsAfter 0 1 start bytes []) in
-    rw (d .finished h .counted, all-stored lends new w .counted) (few-first (new ++ ds))
+    rw (d .finished h .counted, all-stored new w .counted) (few-first (new ++ ds))
 
 -- the data's size
 pub part-within : (text : List ℕ) (start end : ℕ) → start ≤ end → end ≤ length text → start + length (take (end - start) (drop start text)) ≤ length text
@@ -272,19 +242,20 @@ module _ (text : List ℕ) (notesSize barsSize figureSize size : ℕ) (s : Field
         by-tests : {a b : Bool} → hasContent counts && leb (room .bars) (counts .bars) ≡ a → eqb (counts .notes) 0 ≡ b → refusalOf text (limits (lentAll cells)) ≡ byTests a b
         by-tests p q = end-left ∙ (λ i. byTests ((over-agrees ∙ p) i) ((none-agrees ∙ q) i))
 
-        -- 12 at the end
-        pub bars-refused : (barCheck counts (room .bars) ≡ 0 → ⊥) → refusalOf text (limits (lentAll cells)) ≡ some (refusal 12 (length (part .bytes) + 1))
-        bars-refused e = by-tests (bar-fails (hasContent counts && leb (room .bars) (counts .bars)) e) refl
+        -- 12 or 13 at the end
+        pub end-refused : {k : Stop} → k ≡ endCheck counts (room .bars) (length (part .bytes)) → (k .number ≡ 0 → ⊥) → refusalOf text (limits (lentAll cells)) ≡ some (refusal (k .number) (k .place))
+        end-refused {k} is z = by-tests refl refl ∙ go (hasContent counts && leb (room .bars) (counts .bars)) (eqb (counts .notes) 0) is
+          where
+            go : (over empty : Bool) → k ≡ cond over (record { number = 12; place = length (part .bytes) + 1 }) (cond empty (record { number = 13; place = 0 }) (record { number = 0; place = 0 })) → byTests over empty ≡ some (refusal (k .number) (k .place))
+            go true empty e = ap (λ (x : Stop). some (refusal (x .number) (x .place))) (sym e)
+            go false true e = ap (λ (x : Stop). some (refusal (x .number) (x .place))) (sym e)
+            go false false e = absurd (z (ap (λ (x : Stop). x .number) e))
 
         module _ (fits : barCheck counts (room .bars) ≡ 0) where
-          -- 13: no record is stored
-          pub none-refused : counts .notes ≡ 0 → refusalOf text (limits (lentAll cells)) ≡ some (refusal 13 0)
-          none-refused e = by-tests (bar-passes (hasContent counts && leb (room .bars) (counts .bars)) fits) (eq-eqb (counts .notes) 0 e)
-
-          pub none-fails : (counts .notes ≡ 0 → ⊥) → refusalOf text (limits (lentAll cells)) ≡ none
+          none-fails : (counts .notes ≡ 0 → ⊥) → refusalOf text (limits (lentAll cells)) ≡ none
           none-fails e = by-tests (bar-passes (hasContent counts && leb (room .bars) (counts .bars)) fits) (ne-eqb (counts .notes) 0 e)
 
-          module _ (e : counts .notes ≡ 0 → ⊥) (lends : diagnosticLimit * diagnosticSize ≤ size) (diagnosed : Diagnosed size (fieldsDiagnosed text) n scratch₀) where
+          module _ (e : counts .notes ≡ 0 → ⊥) (diagnosed : Diagnosed size (fieldsDiagnosed text) n scratch₀) where
             abbrev done : Finished (part .bytes) (s .start) (s .attributes) n scratch₀ notesSize barsSize (r .st) notes bars scratch
             done = d .finished h
 
@@ -298,7 +269,7 @@ module _ (text : List ℕ) (notesSize barsSize figureSize size : ℕ) (s : Field
                 lends-bars = omega arith
 
             all-diagnosed : Diagnosed size (diagnosticsOf text) (r .st .diagnostics) scratch
-            all-diagnosed = rw (diagnostics-taken, done .counted, done .written) (all-stored lends (dataDiagnosed k (itemsOf part)) diagnosed)
+            all-diagnosed = rw (diagnostics-taken, done .counted, done .written) (all-stored (dataDiagnosed k (itemsOf part)) diagnosed)
 
             counted : barCounted counts .notes ≡ length (notesOf (rules.barsAtEnd endState))
             counted = omega (arith, closed .count)
@@ -316,5 +287,5 @@ module _ (text : List ℕ) (notesSize barsSize figureSize size : ℕ) (s : Field
                   noteCells = closed .written ∙ ap (λ (bs : List Bar). padded notesSize (words.noteCells bs)) b ∙ ap (λ (x : Reading). x .noteCells) q;
                   barCells = barred .written ∙ ap (λ (bs : List Bar). padded barsSize (words.barCells bs)) b ∙ ap (λ (x : Reading). x .barCells) q;
                   figureCells = ap (λ (x : Reading). x .figureCells) q;
-                  diagnosticCells = all-diagnosed .written ∙ sym (ap (λ (o : Option Refusal). given o (padded size (diagnosticCells (diagnosticsOf text))) (λ y. zeros size)) (none-fails e));
+                  diagnosticCells = all-diagnosed .written ∙ sym (ap (λ (o : Option Refusal). given o (heldCells size (diagnosticsOf text)) (λ y. zeros size)) (none-fails e));
                 }

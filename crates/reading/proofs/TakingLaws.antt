@@ -9,7 +9,7 @@ use lib.Seq.{slice}
 use Rattle.rules.specs.Values.{quarter}
 use Rattle.rules.specs.Rules as rules
 use Rattle.rules.specs.Rules.{step}
-use Rattle.values.specs.Rhythm.{Keeping, valueAt, lengthIn, Standing}
+use Rattle.values.specs.Rhythm.{Keeping, valueAt, lengthIn, staying, Standing}
 use Rattle.values.specs.declared.rhythm.Cursor.{Cursor}
 use Rattle.values.specs.declared.pae.Pae.{Pae}
 use Rattle.decode.specs.declared.Token.{Token}
@@ -22,7 +22,7 @@ use Rattle.steps.specs.Relation.{Voiced}
 use Rattle.simulation.proofs.Items.{itemIn}
 use Rattle.simulation.proofs.RhythmLaws.{digit-first, is-grace, duration-stands, value-agrees, rest-stands, opening-stands, grace-stands, joining-stands, other-stands}
 use Rattle.reading.specs.Cells.{notesNext}
-use Rattle.reading.specs.Rhythm.{staying, takenNext, patternNext, cursorNext}
+use Rattle.reading.specs.Rhythm.{takenNext, patternNext, cursorNext}
 
 module _ (place offset width b : ℕ) (value text : List ℕ) (s : rules.State) (st : Pae) {k : Keeping} {c : Cursor} (w : Standing text k c (s .pattern) (s .taken)) (v : Voiced (st .voice) s) (joined : Bool) (joins : rules.joins s ≡ joined) where
   abbrev Stands : Token → Keeping → Cursor → Type 0

@@ -1,17 +1,18 @@
 -- The answer of a reading over lent words. Assumes nothing.
-use Prim.Native.Nat.{ℕ, _/_, _*_, _≤_}
+use Prim.Native.Nat.{ℕ, _/_, _≤_}
 use mathlib.Core.Path.{_≡_}
 use mathlib.Core.Bool.{true}
 use mathlib.Core.List.{List}
 use lib.IntN.{ℤ}
 use lib.ListN.{length}
-use Rattle.rules.specs.Limits.{textLimit, noteSize, barSize, diagnosticLimit, diagnosticSize}
+use Rattle.rules.specs.Limits.{textLimit, noteSize, barSize}
 use Rattle.rules.specs.Records.{given}
 use Rattle.rules.specs.Fields.{fieldsOf, fieldsDiagnosed}
 use Rattle.rules.specs.Refusals.{refusalOf}
 use Rattle.rules.specs.Agreement.{Demand3}
 use Rattle.rules.specs.Reading.{Lent, limits, diagnosticsOf, reading}
-use Rattle.rules.specs.Words.{zeros, padded, diagnosticCells}
+use Rattle.rules.specs.Words.{zeros}
+use Rattle.records.specs.Diagnostics.{heldCells}
 use Rattle.values.specs.declared.pae.Pae.{Pae}
 use Rattle.steps.specs.State.{barCounted}
 use Rattle.steps.specs.Relation.{Diagnosed}
@@ -29,9 +30,9 @@ lentWords notes bars figure cells = record { notes = length notes; bars = length
 abbrev pub roomIn : ℕ → ℕ → ℕ → Room
 roomIn notes bars figure = record { notes = notes / noteSize; bars = bars / barSize; figure = figure / noteSize }
 
--- the diagnostics' words, all 0 after a refusal
+-- the words of the diagnostics that find room, all 0 after a refusal
 abbrev pub scratchCells : List ℕ → Lent → ℕ → List ℤ
-scratchCells text lent size = given (refusalOf text (limits lent)) (padded size (diagnosticCells (diagnosticsOf text))) (λ r. zeros size)
+scratchCells text lent size = given (refusalOf text (limits lent)) (heldCells size (diagnosticsOf text)) (λ r. zeros size)
 
 -- the rules' answer, in numbers and in cells
 pub record Answered (text : List ℕ) (lent : Lent) (size : ℕ) (r : Reading) (notes bars figure scratch : List ℤ) : Type 0 where
@@ -66,7 +67,6 @@ pub record Fielded (text : List ℕ) (fields : Fields) (noteCells barCells scrat
   pub diagnosed : Diagnosed (length scratch) (fieldsDiagnosed text) (fields .diagnostics) scratch
   pub notes : noteCells ≡ zeros (length noteCells)
   pub bars : barCells ≡ zeros (length barCells)
-  pub room : diagnosticLimit * diagnosticSize ≤ length scratch
 
 -- the answer for every count of diagnostic cells that passes the entry
 abbrev pub AnsweredAll : List ℕ → (ℕ → Lent) → ℕ → Reading → List ℤ → List ℤ → List ℤ → List ℤ → Type 0

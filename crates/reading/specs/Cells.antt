@@ -7,12 +7,13 @@ use lib.ListN.{getD, take, drop}
 use lib.Dec.{leb}
 use Rattle.rules.specs.Limits.{noteSize}
 use Rattle.rules.specs.Values.{Length}
-use Rattle.rules.specs.Rules.{Closing, nothing, closing}
+use Rattle.rules.specs.Rules.{Closing, closing}
 use Rattle.records.specs.Cells.{written}
 use Rattle.records.specs.Copies.{copies}
 use Rattle.records.specs.Groups.{timedCount, beamed, onPart}
 use Rattle.values.specs.declared.pae.Counts.{Counts}
 use Rattle.values.specs.declared.pae.Start.{Start}
+use Rattle.values.specs.declared.pae.Groups.{Groups}
 use Rattle.values.specs.declared.pae.Pae.{Pae}
 use Rattle.decode.specs.declared.Figure.{Figure}
 use Rattle.decode.specs.declared.Figure.the-variants as f
@@ -49,41 +50,42 @@ letterCells step st joined length table place cells =
 
 -- ---- figures
 
-abbrev pub figureCopied : Pae → ℕ → List ℤ → List ℤ → List ℤ
-figureCopied st place cells held = written cells (st .counts .notes * noteSize) (copies place (st .counts .bars + 1) held (st .figure))
+-- `f`: the n records of the figure behind those stored
+abbrev pub figureCopied : ℕ → Counts → ℕ → List ℤ → List ℤ → List ℤ
+figureCopied n c place cells held = written cells (c .notes * noteSize) (copies place (c .bars + 1) held n)
 
-abbrev pub barCopied : Pae → ℕ → List ℤ → List ℤ
-barCopied st place cells = let c = st .counts in
-    written cells (c .notes * noteSize) (copies place (c .bars + 1) (drop (c .last * noteSize) cells) (repeatedCount c))
+-- `i`: those of the last stored bar
+abbrev pub barCopied : Counts → ℕ → List ℤ → List ℤ
+barCopied c place cells = written cells (c .notes * noteSize) (copies place (c .bars + 1) (drop (c .last * noteSize) cells) (repeatedCount c))
 
 abbrev pub figureCells : Figure → Pae → ℕ → List ℤ → List ℤ → List ℤ
-figureCells figure st place cells held = elim figure [ f.Mark ↦ cells | f.Repeat ↦ figureCopied st place cells held | f.Bar ↦ barCopied st place cells ]
+figureCells figure st place cells held = elim figure [ f.Mark ↦ cells | f.Repeat ↦ figureCopied (st .figure) (st .counts) place cells held | f.Bar ↦ barCopied (st .counts) place cells ]
 
 -- the figure after a closing `!`
-abbrev pub figureTaken : Pae → List ℤ → List ℤ → List ℤ
-figureTaken st cells held = let start = st .groups .figure in let c = st .counts in
+abbrev pub figureTaken : Groups → Counts → List ℤ → List ℤ → List ℤ
+figureTaken g c cells held = let start = g .figure in
     cond (reaches start c) (written held 0 (take (countFrom start c * noteSize) (drop (recordFrom start c * noteSize) cells))) held
 
 abbrev pub figureHeld : Figure → Pae → List ℤ → List ℤ → List ℤ
-figureHeld figure st cells held = elim figure [ f.Mark ↦ figureTaken st cells held | f.Repeat ↦ held | f.Bar ↦ held ]
+figureHeld figure st cells held = elim figure [ f.Mark ↦ figureTaken (st .groups) (st .counts) cells held | f.Repeat ↦ held | f.Bar ↦ held ]
 
 -- ---- groups and marks
 
-abbrev pub beamCells : Pae → List ℤ → List ℤ
-beamCells st cells = let start = st .groups .beam in let c = st .counts in
+abbrev pub beamCells : Groups → Counts → List ℤ → List ℤ
+beamCells g c cells = let start = g .beam in
     cond (reaches start c) (onPart (recordFrom start c) (λ part. beamed part (countFrom start c)) cells) cells
 
 -- what the open group closes to
-abbrev pub closingIn : Pae → List ℤ → Closing
-closingIn st cells = let start = st .groups .paren in let c = st .counts in
-    cond (leb (start .length) (openLength c)) (closing (timedCount (drop (recordFrom start c * noteSize) cells) (countFrom start c)) (countIn (st .groups .count))) nothing
+abbrev pub closingIn : Groups → Counts → List ℤ → Closing
+closingIn g c cells = let start = g .paren in
+    closing (timedCount (drop (recordFrom start c * noteSize) cells) (countFrom start c)) (countIn (g .count))
 
-abbrev pub groupCells : Pae → List ℤ → List ℤ
-groupCells st cells = let start = st .groups .paren in
-    cond (start .noted) (closedCells (closingIn st cells) (recordFrom start (st .counts)) (countFrom start (st .counts)) cells) cells
+abbrev pub groupCells : Groups → Counts → List ℤ → List ℤ
+groupCells g c cells = let start = g .paren in
+    cond (start .noted) (closedCells (closingIn g c cells) (recordFrom start c) (countFrom start c) cells) cells
 
 abbrev pub markingCells : Marking → Pae → List ℤ → List ℤ
-markingCells marking st cells = let c = st .counts in elim marking [ m.BeamOpen ↦ cells | m.BeamClose ↦ beamCells st cells | m.GroupOpen ↦ cells | m.GroupCount ↦ cells | m.GroupClose ↦ groupCells st cells | m.Tie ↦ cond (endsOf c cells) (tiedCells c cells) cells | m.Trill ↦ cond (hasContent c) (trilledCells c cells) cells ]
+markingCells marking st cells = let c = st .counts in elim marking [ m.BeamOpen ↦ cells | m.BeamClose ↦ beamCells (st .groups) c cells | m.GroupOpen ↦ cells | m.GroupCount ↦ cells | m.GroupClose ↦ groupCells (st .groups) c cells | m.Tie ↦ cond (endsOf c cells) (tiedCells c cells) cells | m.Trill ↦ cond (hasContent c) (trilledCells c cells) cells ]
 
 -- ---- a token
 

@@ -7,7 +7,7 @@ use mathlib.Core.List.{List, [], map}
 use lib.IntN.{ℤ}
 use lib.ListN.{length}
 use lib.Dec.{eqb}
-use Rattle.rules.specs.Limits.{textLimit, noteSize, barSize, diagnosticLimit, diagnosticSize}
+use Rattle.rules.specs.Limits.{textLimit, noteSize, barSize}
 use Rattle.rules.specs.Tokens.{Item, itemsAfter}
 use Rattle.rules.specs.Rules as rules
 use Rattle.rules.specs.Diagnostics.{dataDiagnosed}
@@ -35,7 +35,7 @@ abbrev pub lent : Room → Limits
 lent room = record { notes = room .notes; bars = room .bars; figure = room .figure; diagnostics = 0 }
 
 -- cleared cells, enough of them, and data that is not too long
-pub record Begins (data′ : List ℕ) (start : ℕ) (a : Attributes) (noteCells barCells figureCells scratchCells : List ℤ) (room : Room) : Type 0 where
+pub record Begins (data′ : List ℕ) (start : ℕ) (a : Attributes) (noteCells barCells figureCells : List ℤ) (room : Room) : Type 0 where
   pub short : length data′ ≤ textLimit
   pub ends : start + length data′ < wordLimit
   pub notes : noteCells ≡ zeros (length noteCells)
@@ -43,7 +43,6 @@ pub record Begins (data′ : List ℕ) (start : ℕ) (a : Attributes) (noteCells
   pub notesRoom : room .notes * noteSize ≤ length noteCells
   pub barsRoom : room .bars * barSize ≤ length barCells
   pub figureRoom : room .figure * noteSize ≤ length figureCells
-  pub scratch : diagnosticLimit * diagnosticSize ≤ length scratchCells
   pub attributes : Attributed a (rules.fresh (attributesIn a))
 
 module _ (data′ : List ℕ) (start : ℕ) (a : Attributes) (n : ℕ) (scratch₀ : List ℤ) (size barsSize : ℕ) where

@@ -1,7 +1,7 @@
-pub mod State
 pub mod Cells
 pub mod Ready
 pub mod Rhythm
 pub mod Walk
 pub mod Data
 pub mod Answer
+pub mod Frame

@@ -10,7 +10,9 @@ use Rattle.rules.specs.Rules.{Closing, nothing, fermata, tuplet, tooFew}
 use Rattle.records.specs.Cells.{wordLimit, recordAt}
 use Rattle.records.specs.Notes.{pitchCountAt, HasRoom}
 use Rattle.records.specs.Groups.{lastTimed}
+use Rattle.rules.specs.Words.{zeros}
 use Rattle.values.specs.declared.pae.Counts.{Counts}
+use Rattle.values.specs.declared.pae.Groups.{Groups}
 use Rattle.values.specs.declared.pae.Pae.{Pae}
 use Rattle.decode.specs.declared.Figure.{Figure}
 use Rattle.decode.specs.declared.Figure.the-variants as f
@@ -39,17 +41,20 @@ pub record PlaceReady (n : ℕ) (c : Counts) (cells : List ℤ) : Type 0 where
   pub within : Within c cells
   pub place : HasPlace n c cells
 
+-- the next record's cells are cleared
+abbrev pub Blank : Counts → List ℤ → Type 0
+Blank c cells = recordAt noteSize cells (c .notes) ≡ zeros noteSize
+
 -- a letter that joins finds a record with room for a pitch, one that opens a place
-pub record NoteReady (st : Pae) (joined : Bool) (cells : List ℤ) : Type 0 where
-  pub within : Within (st .counts) cells
-  pub octave : st .voice .octave < 10
-  pub joins : joined ≡ true → (0 < st .counts .notes) × (lastField pitchCountAt (st .counts) cells < pitchCapacity)
-  pub opens : joined ≡ false → HasPlace 1 (st .counts) cells
+pub record LetterReady (c : Counts) (joined : Bool) (cells : List ℤ) : Type 0 where
+  pub within : Within c cells
+  pub joins : joined ≡ true → (0 < c .notes) × (lastField pitchCountAt c cells < pitchCapacity)
+  pub opens : joined ≡ false → HasPlace 1 c cells × Blank c cells
 
 -- a closing `!` finds room in the figure
-pub record FigureReady (st : Pae) (cells held : List ℤ) : Type 0 where
-  pub within : Within (st .counts) cells
-  pub room : reaches (st .groups .figure) (st .counts) ≡ true → countFrom (st .groups .figure) (st .counts) * noteSize ≤ length held
+pub record FigureReady (g : Groups) (c : Counts) (cells held : List ℤ) : Type 0 where
+  pub within : Within c cells
+  pub room : reaches (g .figure) c ≡ true → countFrom (g .figure) c * noteSize ≤ length held
 
 -- what a closing asks of `count` records from record `from` on: a fermata finds room for a mark, a tuplet has three or more
 abbrev pub ClosingReady : Closing → ℕ → ℕ → List ℤ → Type 0
@@ -59,11 +64,9 @@ ClosingReady (tuplet actual) from count cells = 3 ≤ actual
 ClosingReady (tooFew actual) from count cells = Unit {0}
 
 -- a group that closes to a fermata finds room for a mark
-pub record GroupReady (st : Pae) (cells : List ℤ) : Type 0 where
-  pub within : Within (st .counts) cells
-  pub count : st .groups .count ≤ 256
-  pub room : st .groups .paren .noted ≡ true → closingIn st cells ≡ fermata
-      → let part = drop (recordFrom (st .groups .paren) (st .counts) * noteSize) cells in HasRoom (recordAt noteSize part (lastTimed part (countFrom (st .groups .paren) (st .counts))))
+pub record GroupReady (g : Groups) (c : Counts) (cells : List ℤ) : Type 0 where
+  pub within : Within c cells
+  pub room : g .paren .noted ≡ true → closingIn g c cells ≡ fermata → let part = drop (recordFrom (g .paren) c * noteSize) cells in HasRoom (recordAt noteSize part (lastTimed part (countFrom (g .paren) c)))
 
 -- a trill finds room for a mark
 pub record TrillReady (c : Counts) (cells : List ℤ) : Type 0 where
@@ -78,7 +81,7 @@ BarReady c bars = (hasContent c ≡ true → c .bars * barSize + barSize ≤ len
 
 -- what `!`, `f` and `i` ask; held: the figure's cells
 abbrev pub FigureAsked : Figure → Pae → List ℤ → List ℤ → Type 0
-FigureAsked f.Mark st cells held = FigureReady st cells held
+FigureAsked f.Mark st cells held = FigureReady (st .groups) (st .counts) cells held
 FigureAsked f.Repeat st cells held = PlaceReady (st .figure) (st .counts) cells × (st .figure * noteSize ≤ length held)
 FigureAsked f.Bar st cells held = PlaceReady (repeatedCount (st .counts)) (st .counts) cells
 
@@ -87,7 +90,7 @@ MarkingAsked m.BeamOpen st cells = Unit {0}
 MarkingAsked m.BeamClose st cells = Unit {0}
 MarkingAsked m.GroupOpen st cells = Unit {0}
 MarkingAsked m.GroupCount st cells = Unit {0}
-MarkingAsked m.GroupClose st cells = GroupReady st cells
+MarkingAsked m.GroupClose st cells = GroupReady (st .groups) (st .counts) cells
 MarkingAsked m.Tie st cells = Unit {0}
 MarkingAsked m.Trill st cells = TrillReady (st .counts) cells
 
@@ -98,9 +101,9 @@ Asked t.Meter st joined cells bars held = Unit {0}
 Asked (t.Octave octave) st joined cells bars held = Unit {0}
 Asked t.Duration st joined cells bars held = Unit {0}
 Asked (t.Accidental alter) st joined cells bars held = Unit {0}
-Asked (t.Letter step) st joined cells bars held = (step < 7) × NoteReady st joined cells
+Asked (t.Letter step) st joined cells bars held = LetterReady (st .counts) joined cells
 Asked t.Chord st joined cells bars held = Unit {0}
-Asked t.Rest st joined cells bars held = PlaceReady 1 (st .counts) cells
+Asked t.Rest st joined cells bars held = PlaceReady 1 (st .counts) cells × Blank (st .counts) cells
 Asked (t.Barline barline) st joined cells bars held = BarReady (st .counts) bars
 Asked (t.Grace slashed) st joined cells bars held = Unit {0}
 Asked (t.GraceGroup begins) st joined cells bars held = Unit {0}
@@ -115,7 +118,3 @@ Asked t.Unknown st joined cells bars held = Unit {0}
 pub record Ready (token : Token) (st : Pae) (joined : Bool) (cells bars held : List ℤ) : Type 0 where
   pub within : Within (st .counts) cells
   pub asked : Asked token st joined cells bars held
-
--- a letter's step is one of seven
-abbrev pub StepLow : Token → Type 0
-StepLow token = (step : ℕ) → token ≡ t.Letter step → step < 7

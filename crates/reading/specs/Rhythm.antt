@@ -2,8 +2,8 @@
 use Prim.Native.Nat.{ℕ}
 use mathlib.Core.Bool.{Bool, cond}
 use mathlib.Core.List.{List}
-use Rattle.rules.specs.Values.{Length, quarter}
-use Rattle.values.specs.Rhythm.{Keeping, lengthIn, valueAt, patternAt, firstOf}
+use Rattle.rules.specs.Values.{quarter}
+use Rattle.values.specs.Rhythm.{Keeping, lengthIn, staying, valueAt, patternAt, firstOf}
 use Rattle.values.specs.declared.pae.Voice.{Voice}
 use Rattle.values.specs.declared.rhythm.Cursor.{Cursor}
 use Rattle.values.specs.declared.rhythm.Pattern.{Pattern}
@@ -11,10 +11,6 @@ use Rattle.values.specs.declared.rhythm.Value.{Value}
 use Rattle.decode.specs.declared.Token.{Token}
 use Rattle.decode.specs.declared.Token.the-variants as t
 use Rattle.steps.specs.Notes.{isGraceIn}
-
--- a length, and the cursor as it was
-abbrev pub staying : Cursor → Length → Value
-staying c length = record { duration = length .duration; dots = length .dots; next = c }
 
 -- each non-grace opening takes the value at the cursor, a grace without stepping; a letter that joins takes none
 abbrev pub letterValue : Bool → Voice → Cursor → Value → Value

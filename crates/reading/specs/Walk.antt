@@ -1,24 +1,55 @@
 -- The walk over the data's tokens. Assumes nothing.
-use Prim.Native.Nat.{ℕ}
+use Prim.Native.Nat.{ℕ, _+_}
+use mathlib.Core.Bool.{Bool}
 use mathlib.Core.List.{List, map}
 use lib.IntN.{ℤ}
 use Rattle.rules.specs.Rules.{Closing, nothing}
 use Rattle.rules.specs.Words.{diagnosticWords}
+use Rattle.values.specs.Rhythm.{Keeping, lengthIn}
 use Rattle.values.specs.declared.pae.Pae.{Pae}
+use Rattle.values.specs.declared.rhythm.Cursor.{Cursor}
 use Rattle.decode.specs.declared.Marking.{Marking}
 use Rattle.decode.specs.declared.Marking.the-variants as m
 use Rattle.decode.specs.declared.Token.{Token}
 use Rattle.decode.specs.declared.Token.the-variants as t
+use Rattle.steps.specs.Accidentals.{Table}
 use Rattle.steps.specs.Notes.{endsOf}
+use Rattle.steps.specs.Steps.{tableNext, stepped}
 use Rattle.remarks.specs.Remarks.{valueFrom, itemFrom, tokenFound}
-use Rattle.reading.specs.Cells.{closingIn}
+use Rattle.reading.specs.Cells.{closingIn, notesNext, barsNext, heldNext}
+use Rattle.reading.specs.Rhythm.{takenNext, patternNext, cursorNext}
+
+-- what the walk holds between two tokens, but for the diagnostics: the state, the accidentals, the pattern with its cursor, the lent cells
+pub record Hand : Type 0 where
+  pub st : Pae
+  pub table : Table
+  pub pattern : Keeping
+  pub cursor : Cursor
+  pub notes : List ℤ
+  pub bars : List ℤ
+  pub figure : List ℤ
+
+-- what the arm of a token from `at` to `end` of the data makes of it; joined: a letter would join
+abbrev pub armed : List ℕ → ℕ → ℕ → Bool → Hand → Token → Hand
+armed data′ at end joined h token =
+    let k = patternNext token data′ at end (h .pattern) in
+    let v = takenNext token joined (h .st .voice) data′ (h .pattern) (h .cursor) in
+    record {
+      st = stepped token (valueFrom data′ at end) joined (endsOf (h .st .counts) (h .notes)) (h .st);
+      table = tableNext token (h .st .voice) (h .table);
+      pattern = k;
+      cursor = cursorNext token (k .pattern) (v .next);
+      notes = notesNext token (h .st) joined (lengthIn v) (h .table) (at + 1) (h .figure) (h .notes);
+      bars = barsNext token (h .st) (h .bars);
+      figure = heldNext token (h .st) (h .notes) (h .figure);
+    }
 
 -- so many diagnostics are stored
 abbrev pub withDiagnostics : ℕ → Pae → Pae
 withDiagnostics n st = record { attributes = st .attributes; voice = st .voice; counts = st .counts; groups = st .groups; figure = st .figure; diagnostics = n }
 
 abbrev pub markingClosing : Marking → Pae → List ℤ → Closing
-markingClosing which st cells = elim which [ m.BeamOpen ↦ nothing | m.BeamClose ↦ nothing | m.GroupOpen ↦ nothing | m.GroupCount ↦ nothing | m.GroupClose ↦ closingIn st cells | m.Tie ↦ nothing | m.Trill ↦ nothing ]
+markingClosing which st cells = elim which [ m.BeamOpen ↦ nothing | m.BeamClose ↦ nothing | m.GroupOpen ↦ nothing | m.GroupCount ↦ nothing | m.GroupClose ↦ closingIn (st .groups) (st .counts) cells | m.Tie ↦ nothing | m.Trill ↦ nothing ]
 
 -- what an open group closes to, where the token is a `)`
 abbrev pub closingFor : Token → Pae → List ℤ → Closing

@@ -1,119 +1,68 @@
 // The walk over the data's tokens.
 ghost use mathlib.Core.Path.{_≡_};
-ghost use Prim.Native.Nat.{_+_, _*_, _<_, _≤_};
 ghost use lib.ListN.{length};
-ghost use Rattle.rules.specs.Limits.{diagnosticLimit, diagnosticSize};
-ghost use Rattle.records.specs.Cells.{wordLimit};
-ghost use Rattle.records.specs.Groups.{closingOf};
-ghost use Rattle.values.specs.Rhythm.{keeping};
-ghost use Rattle.diagnose.specs.Found.{countAfterAll, cellsAfterAll};
-ghost use Rattle.reading.specs.Ready.{Within};
-ghost use Rattle.reading.specs.Rhythm.{patternNext, cursorNext};
 ghost use Rattle.reading.specs.Data.{begun, Begins, DataRead};
-ghost use Rattle.reading.specs.Walk.{withDiagnostics, markingClosing, closingFor, remarked};
-use super::rhythm::next_value;
-use super::step::closing;
-use super::step::step;
-use super::step::table_step;
+use super::rhythm::letter_value;
+use super::step::bar_repeat;
+use super::step::clef;
+use super::step::close_beam;
+use super::step::close_paren;
+use super::step::counts_after;
+use super::step::figure_mark;
+use super::step::figure_repeat;
+use super::step::key;
+use super::step::meter;
+use super::step::note;
+use super::step::tie;
+use super::step::trill;
+use super::step::voice_after;
 use checks::Room;
-use checks::check;
+use checks::check_bar;
+use checks::check_group;
+use checks::check_letter;
+use checks::check_mark;
+use checks::check_trill;
+use checks::group_timed;
+use checks::room_for;
+use decode::Figure;
 use decode::Marking;
 use decode::Token;
 use decode::decode;
 use diagnose::store_found;
-use records::group::Closing;
-use remarks::token_found;
+use records::Place;
+use remarks::Span;
+use remarks::clef_remarks;
+use remarks::count_found;
+use remarks::group_found;
+use remarks::key_remarks;
+use remarks::mark_found;
+use remarks::meter_remarks;
+use remarks::span_of;
+use remarks::unless;
+use remarks::whole;
+use steps::accidentals::alteration;
 use steps::accidentals::cleared;
+use steps::accidentals::entry_after;
+use steps::bars::store_bar;
+use steps::groups::group_closing;
+use steps::notes;
 use steps::notes::ends_in_note;
 use steps::notes::joins;
-use steps::state::with_attributes;
+use steps::state;
 use text::token_end;
+use values::attributes::clef_of;
+use values::attributes::key_of;
+use values::attributes::meter_of;
 use values::pae::Attributes;
 use values::pae::Pae;
-use values::rhythm::Cursor;
 use values::rhythm::KEPT;
+use values::rhythm::Octave;
 use values::rhythm::Pattern;
-
-// A digit token replaces the pattern.
-fn pattern_step(
-    token: Token,
-    pattern: Pattern,
-    kept: &mut [u8; KEPT],
-    data: &[u8],
-    at: usize,
-    end: usize,
-) -> Pattern
-    requires { ⌜ end ≤ length (now «data») ⌝ }
-    ensures { λ r. ⌜ keeping r (now (kept .exit)) ≡ patternNext token (now («data» .entry)) at end (keeping pattern (now (kept .entry))) ⌝ }
-{
-    match token {
-        Token::Duration => Pattern::of(data, at, end, kept),
-        _ => pattern,
-    }
-}
-
-// And starts it anew.
-fn cursor_step(token: Token, pattern: Pattern, next: Cursor) -> Cursor
-    ensures { λ r. ⌜ r ≡ cursorNext token pattern next ⌝ }
-{
-    match token {
-        Token::Duration => pattern.first(),
-        _ => next,
-    }
-}
-
-fn marking_closing(which: Marking, st: Pae, notes: &[i32]) -> Closing
-    requires { ⌜ Within (st .counts) (now notes) × (st .groups .count ≤ 256) ⌝ }
-    ensures { λ r. ⌜ closingOf r ≡ markingClosing which st (now (notes .entry)) ⌝ }
-{
-    match which {
-        Marking::GroupClose => closing(st, notes),
-        _ => Closing::Nothing,
-    }
-}
-
-// What an open group closes to, where the token is a `)`.
-fn closing_for(token: Token, st: Pae, notes: &[i32]) -> Closing
-    requires { ⌜ Within (st .counts) (now notes) × (st .groups .count ≤ 256) ⌝ }
-    ensures { λ r. ⌜ closingOf r ≡ closingFor token st (now (notes .entry)) ⌝ }
-{
-    match token {
-        Token::Marking(which) => marking_closing(which, st, notes),
-        _ => Closing::Nothing,
-    }
-}
-
-fn with_diagnostics(mut st: Pae, count: usize) -> Pae
-    ensures { λ r. ⌜ r ≡ withDiagnostics count st ⌝ }
-{
-    st.diagnostics = count;
-    st
-}
-
-// What the token from `at` to `end` diagnoses is stored; the new count. The data stands at offset `start` of the text.
-fn remark(
-    token: Token,
-    st: Pae,
-    notes: &[i32],
-    scratch: &mut [i32],
-    data: &[u8],
-    at: usize,
-    end: usize,
-    start: usize,
-) -> usize
-    requires { ⌜ Within (st .counts) (now notes) × (st .groups .count ≤ 256) × (at < end) × (end ≤ length (now «data»)) × (start + length (now «data») < wordLimit) × (diagnosticLimit * diagnosticSize ≤ length (now scratch)) ⌝ }
-    ensures { λ r. ⌜ (r ≡ countAfterAll (st .diagnostics) (remarked token st (now (notes .entry)) (now («data» .entry)) start at end)) × (now (scratch .exit) ≡ cellsAfterAll (now (scratch .entry)) (st .diagnostics) (remarked token st (now (notes .entry)) (now («data» .entry)) start at end)) ⌝ }
-{
-    let ends = ends_in_note(st.counts, notes);
-    let closing = closing_for(token, st, notes);
-    let found = token_found(token, st, ends, closing, data, at, end, start);
-    store_found(scratch, st.diagnostics, found)
-}
 
 // How the walk ended: the number of the check that failed and its place, or 0, and the state.
 pub struct Outcome {
     pub number: u8,
-    pub place: usize,
+    pub place: u32,
     pub st: Pae,
 }
 
@@ -121,11 +70,25 @@ pub struct Outcome {
 fn begin(attributes: Attributes, diagnostics: usize) -> Pae
     ensures { λ r. ⌜ r ≡ begun attributes diagnostics ⌝ }
 {
-    let fresh = Pae::new();
-    with_diagnostics(with_attributes(fresh, attributes), diagnostics)
+    let mut st = Pae::new();
+    st.attributes = attributes;
+    st.diagnostics = diagnostics;
+    st
 }
 
-// Reads the data, which stands at offset `start` of the text, into cleared cells.
+// A check fails at a token: the walk stops at its place.
+fn stopped(number: u8, span: Span, st: Pae) -> Outcome
+    ensures { λ r. ⌜ r ≡ record { number = number; place = span .place; st = st } ⌝ }
+{
+    Outcome {
+        number,
+        place: span.place,
+        st,
+    }
+}
+
+// Reads the data, which stands at offset `start` of the text, into cleared cells: a token at a time, each by its kind, in the order of the
+// published code. A token's check comes first, then what it diagnoses, then what it makes of the state and of the records.
 pub fn read_data(
     data: &[u8],
     start: usize,
@@ -137,7 +100,7 @@ pub fn read_data(
     scratch: &mut [i32],
     room: Room,
 ) -> Outcome
-    requires { ⌜ Begins (now «data») start attributes (now notes) (now bars) (now figure) (now scratch) room ⌝ }
+    requires { ⌜ Begins (now «data») start attributes (now notes) (now bars) (now figure) room ⌝ }
     ensures { λ r. ⌜ DataRead (now («data» .entry)) start attributes diagnostics (now (scratch .entry)) (length (now (notes .entry))) (length (now (bars .entry))) room r (now (notes .exit)) (now (bars .exit)) (now (scratch .exit)) ⌝ }
 {
     let mut kept = [0u8; KEPT];
@@ -147,39 +110,268 @@ pub fn read_data(
     let mut table = cleared();
     let mut at = 0;
     while at < data.len() {
-        let end = token_end(data, at);
-        let token = decode(data[at], end - at);
-        let joined = joins(st.voice, st.counts, notes);
-        let stop = check(token, st, joined, notes, room);
-        if stop != 0 {
-            return Outcome {
-                number: stop,
-                place: at + 1,
-                st,
-            };
-        }
-        let count = remark(token, st, notes, scratch, data, at, end, start);
-        let next_table = table_step(token, st, table);
-        let value = next_value(token, joined, st.voice, pattern, cursor, &kept, data);
-        let next = step(
-            token,
-            st,
-            joined,
-            value,
-            table,
-            notes,
-            bars,
-            figure,
-            data,
-            at,
-            end,
-        );
-        let next_pattern = pattern_step(token, pattern, &mut kept, data, at, end);
-        cursor = cursor_step(token, next_pattern, value.next);
-        pattern = next_pattern;
-        st = with_diagnostics(next, count);
-        table = next_table;
+        let first = at;
+        let end = token_end(data, first);
+        let token = decode(data[first], end - first);
+        let span = span_of(first, end, start);
         at = end;
+        match token {
+            // Clef: `%`, taken while the open bar has no note.
+            Token::Clef => {
+                let content = state::has_content(st.counts);
+                let from = first + 1;
+                let value = clef_of(&data[from..end]);
+                let found = clef_remarks(content, value, span);
+                st.diagnostics = store_found(scratch, st.diagnostics, found);
+                st.attributes = clef(st.attributes, content, value);
+                continue;
+            }
+            // Key signature: `$`, likewise.
+            Token::Key => {
+                let content = state::has_content(st.counts);
+                let from = first + 1;
+                let value = key_of(&data[from..end]);
+                let found = key_remarks(content, value, span);
+                st.diagnostics = store_found(scratch, st.diagnostics, found);
+                st.attributes = key(st.attributes, content, value);
+                continue;
+            }
+            // Time signature: `@`, likewise.
+            Token::Meter => {
+                let content = state::has_content(st.counts);
+                let from = first + 1;
+                let value = meter_of(&data[from..end]);
+                let found = meter_remarks(content, value, span);
+                st.diagnostics = store_found(scratch, st.diagnostics, found);
+                st.attributes = meter(st.attributes, content, value);
+                continue;
+            }
+            // Octave: a run of `'` or of `,`.
+            Token::Octave(octave) => match octave {
+                Octave::Set(number) => {
+                    st.voice.octave = number;
+                    continue;
+                }
+                Octave::OutOfRange => {
+                    let found = whole(8, span);
+                    st.diagnostics = store_found(scratch, st.diagnostics, found);
+                    continue;
+                }
+            },
+            // Rhythmic values: digits with dots, a pattern.
+            Token::Duration => {
+                let next = Pattern::of(data, first, end, &mut kept);
+                cursor = next.first();
+                pattern = next;
+                continue;
+            }
+            // Accidental: `x`, `xx`, `b`, `bb`, `n`; it waits for the next letter.
+            Token::Accidental(alter) => {
+                st.voice = state::accidental(st.voice, alter);
+                continue;
+            }
+            // Note: `A` to `G`, a pitch more in the last record or a record of its own.
+            Token::Letter(step) => {
+                let joined = joins(st.voice, st.counts, notes);
+                let stop = check_letter(joined, st.counts, notes, room.notes);
+                if stop != 0 {
+                    return stopped(stop, span, st);
+                }
+                let value = letter_value(joined, st.voice, pattern, cursor, &kept, data);
+                let row = step as usize;
+                let column = st.voice.octave as usize;
+                let here = table[row][column];
+                let alter = alteration(here, st.voice, st.attributes, step);
+                note(
+                    notes,
+                    st.counts,
+                    st.voice,
+                    joined,
+                    value,
+                    step,
+                    alter,
+                    Place(span.place),
+                );
+                let voice = st.voice;
+                let entry = entry_after(here, voice.accidental);
+                table[row][column] = entry;
+                st.voice = voice_after(st.voice, joined);
+                st.counts = counts_after(st.counts, joined);
+                cursor = value.next;
+                continue;
+            }
+            // Chord: `^`, the next letter joins.
+            Token::Chord => {
+                st.voice.chord = true;
+                continue;
+            }
+            // Rest: `-`.
+            Token::Rest => {
+                let stop = room_for(st.counts.notes, 1, room.notes);
+                if stop != 0 {
+                    return stopped(stop, span, st);
+                }
+                let value = pattern.value_at(data, &kept, cursor);
+                notes::rest(
+                    notes,
+                    st.counts,
+                    value.duration,
+                    value.dots,
+                    Place(span.place),
+                );
+                st.voice.tie = false;
+                st.counts = state::counted(st.counts, 1);
+                cursor = value.next;
+                continue;
+            }
+            // Barline: `/`, `//`, `//:`, `://`, `://:`.
+            Token::Barline(barline) => {
+                let stop = check_bar(st.counts, room.bars);
+                if stop != 0 {
+                    return stopped(stop, span, st);
+                }
+                store_bar(bars, st.counts, st.attributes, barline.right);
+                let content = state::has_content(st.counts);
+                st.attributes = state::bar_attributes(st.attributes, content, barline.left);
+                st.counts = state::bar_counted(st.counts);
+                table = cleared();
+                continue;
+            }
+            // Grace note: acciaccatura `g` or appoggiatura `q`, on the next opened note.
+            Token::Grace(slashed) => {
+                st.voice = state::grace(st.voice, slashed);
+                continue;
+            }
+            // Group of appoggiaturas: `qq` to `r`.
+            Token::GraceGroup(begins) => {
+                let found = unless(begins | st.voice.group, 15, span);
+                st.diagnostics = store_found(scratch, st.diagnostics, found);
+                st.voice.group = begins;
+                continue;
+            }
+            // Repeated figure: `!` to `!`, then `f`; repeated bar: `i`.
+            Token::Figure(which) => match which {
+                Figure::Mark => {
+                    let stop = check_mark(st.groups, st.counts, room.figure);
+                    if stop != 0 {
+                        return stopped(stop, span, st);
+                    }
+                    let length = state::open_length(st.counts);
+                    let found = mark_found(st.groups.figure, length, span);
+                    st.diagnostics = store_found(scratch, st.diagnostics, found);
+                    figure_mark(st.groups, st.counts, notes, figure);
+                    st.figure = state::figure_closed(st.groups, length, st.figure);
+                    st.groups = state::figure_marked(st.groups, length);
+                    continue;
+                }
+                Figure::Repeat => {
+                    let stop = room_for(st.counts.notes, st.figure, room.notes);
+                    if stop != 0 {
+                        return stopped(stop, span, st);
+                    }
+                    let found = unless(st.figure != 0, 18, span);
+                    st.diagnostics = store_found(scratch, st.diagnostics, found);
+                    figure_repeat(st.figure, st.counts, notes, figure, Place(span.place));
+                    st.counts = state::counted(st.counts, st.figure);
+                    continue;
+                }
+                Figure::Bar => {
+                    let copied = state::repeated_count(st.counts);
+                    let stop = room_for(st.counts.notes, copied, room.notes);
+                    if stop != 0 {
+                        return stopped(stop, span, st);
+                    }
+                    let content = state::has_content(st.counts);
+                    let found = unless((!content) & (st.counts.bars != 0), 19, span);
+                    st.diagnostics = store_found(scratch, st.diagnostics, found);
+                    bar_repeat(copied, st.counts, notes, Place(span.place));
+                    st.counts = state::counted(st.counts, copied);
+                    continue;
+                }
+            },
+            Token::Marking(which) => match which {
+                // Beams: `{` to `}`.
+                Marking::BeamOpen => {
+                    let length = state::open_length(st.counts);
+                    st.groups = state::beam_opened(st.groups, length);
+                    continue;
+                }
+                Marking::BeamClose => {
+                    close_beam(st.groups, st.counts, notes);
+                    st.groups = state::beam_closed(st.groups);
+                    continue;
+                }
+                // Fermata and rhythmic groups: `(` to `)`, `;` with the count.
+                Marking::GroupOpen => {
+                    let length = state::open_length(st.counts);
+                    st.groups = state::paren_opened(st.groups, length);
+                    continue;
+                }
+                Marking::GroupCount => {
+                    let from = first + 1;
+                    let value = text::count(&data[from..end]);
+                    let found = count_found(st.groups.paren.noted, value, span);
+                    st.diagnostics = store_found(scratch, st.diagnostics, found);
+                    st.groups = state::paren_counted(st.groups, value);
+                    continue;
+                }
+                Marking::GroupClose => {
+                    let timed = group_timed(st.groups, st.counts, notes);
+                    let stop = check_group(st.groups, st.counts, timed, notes);
+                    if stop != 0 {
+                        return stopped(stop, span, st);
+                    }
+                    let closing = group_closing(timed.count, st.groups.count);
+                    let found = group_found(st.groups, st.counts, closing, span);
+                    st.diagnostics = store_found(scratch, st.diagnostics, found);
+                    close_paren(st.groups, st.counts, closing, notes);
+                    st.groups = state::paren_closed(st.groups);
+                    continue;
+                }
+                // Tie: `+`.
+                Marking::Tie => {
+                    let ends = ends_in_note(st.counts, notes);
+                    let found = unless(ends, 16, span);
+                    st.diagnostics = store_found(scratch, st.diagnostics, found);
+                    tie(ends, st.counts, notes);
+                    let waits = ends | st.voice.tie;
+                    st.voice.tie = waits;
+                    continue;
+                }
+                // Trill: `t`.
+                Marking::Trill => {
+                    let stop = check_trill(st.counts, notes);
+                    if stop != 0 {
+                        return stopped(stop, span, st);
+                    }
+                    let content = state::has_content(st.counts);
+                    let found = unless(content, 14, span);
+                    st.diagnostics = store_found(scratch, st.diagnostics, found);
+                    trill(content, st.counts, notes);
+                    continue;
+                }
+            },
+            // Blanks do nothing.
+            Token::Blank => {
+                continue;
+            }
+            // A lone `:` is no barline.
+            Token::Colon => {
+                let found = whole(9, span);
+                st.diagnostics = store_found(scratch, st.diagnostics, found);
+                continue;
+            }
+            // Whole-bar rests aren't read.
+            Token::MeasureRest => {
+                return stopped(6, span, st);
+            }
+            // A token without a rule.
+            Token::Unknown => {
+                let found = whole(15, span);
+                st.diagnostics = store_found(scratch, st.diagnostics, found);
+                continue;
+            }
+        }
     }
     Outcome {
         number: 0,

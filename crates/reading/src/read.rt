@@ -1,16 +1,16 @@
 // The whole reading over lent words.
 ghost use mathlib.Core.Path.{_≡_};
-ghost use Prim.Native.Nat.{_+_, _*_, _<_, _≤_};
+ghost use Prim.Native.Nat.{_+_, _*_, _≤_};
 ghost use mathlib.Core.Bool.{true};
 ghost use lib.ListN.{length};
-ghost use Rattle.rules.specs.Limits.{textLimit, noteLimit, diagnosticLimit, barSize, diagnosticSize};
+ghost use Rattle.rules.specs.Limits.{textLimit, noteLimit, diagnosticLimit, barSize};
 ghost use Rattle.rules.specs.Words.{zeros};
 ghost use Rattle.steps.specs.Bars.{storedBars};
 ghost use Rattle.steps.specs.State.{hasContent};
 ghost use Rattle.reading.specs.Answer.{lentWords, roomIn, Promised, refusedWith, finishedWith, Fielded, AnsweredAll};
 use super::data::read_data;
 use checks::Room;
-use checks::check_bar;
+use checks::check_end;
 use entry::entry_check;
 use fields::Fields;
 use fields::fields_of;
@@ -49,9 +49,8 @@ fn refuse(
     figure: &mut [i32],
     scratch: &mut [i32],
     number: u8,
-    place: usize,
+    place: u32,
 ) -> Reading
-    requires { ⌜ place < 4294967296 ⌝ }
     ensures { λ r. ⌜ (r ≡ refusedWith number place) × (now (notes .exit) ≡ zeros (length (now (notes .entry)))) × (now (bars .exit) ≡ zeros (length (now (bars .entry)))) × (now (figure .exit) ≡ zeros (length (now (figure .entry)))) × (now (scratch .exit) ≡ zeros (length (now (scratch .entry)))) ⌝ }
 {
     clear(notes);
@@ -60,7 +59,7 @@ fn refuse(
     clear(scratch);
     Reading {
         number: number as u32,
-        place: place as u32,
+        place,
         notes: 0,
         bars: 0,
         diagnostics: 0,
@@ -115,16 +114,15 @@ fn read_fielded(
         return refuse(notes, bars, figure, scratch, outcome.number, outcome.place);
     }
     let st = outcome.st;
-    if check_bar(st.counts, room.bars) != 0 {
-        return refuse(notes, bars, figure, scratch, 12, data.len() + 1);
-    }
-    if st.counts.notes == 0 {
-        return refuse(notes, bars, figure, scratch, 13, 0);
+    let stop = check_end(st.counts, room.bars, data.len());
+    if stop.number != 0 {
+        return refuse(notes, bars, figure, scratch, stop.number, stop.place);
     }
     finish(bars, figure, st)
 }
 
-// Reads a text into lent words, six cleared scratch words a diagnostic; so many diagnostic cells are lent.
+// Reads a text into lent words; so many diagnostic cells are lent. All diagnostics count; those for which the cleared scratch has room, six words each,
+// stand in it.
 pub fn read(
     text: &[u8],
     notes: &mut [i32],
@@ -133,7 +131,7 @@ pub fn read(
     scratch: &mut [i32],
     cells: usize,
 ) -> Reading
-    requires { ⌜ (diagnosticLimit * diagnosticSize ≤ length (now scratch)) × (now scratch ≡ zeros (length (now scratch))) ⌝ }
+    requires { ⌜ now scratch ≡ zeros (length (now scratch)) ⌝ }
     ensures { λ r. ⌜ Promised (now (text .entry)) (lentWords (now (notes .entry)) (now (bars .entry)) (now (figure .entry)) cells) (length (now (scratch .entry))) r (now (notes .exit)) (now (bars .exit)) (now (figure .exit)) (now (scratch .exit)) ⌝ }
 {
     clear(notes);

@@ -1,12 +1,12 @@
 -- The cells of records of any kind: one record added, read, changed, and a part of them. The latest record stands first in a list; `q` stands before x in the cells, and `p` after it. Assumes nothing.
 use Prim.Native.Nat.{ℕ, zero, suc, _+_, _-_, _*_, _<_, _≤_}
 use native.Mathlib.Omega.{arith}
-use native.Mathlib.Nat.{suc-sub-suc, sub-zero, zero-sub, zero-mul, suc-mul}
-use mathlib.Core.Path.{_≡_, _∙_}
+use native.Mathlib.Nat.{suc-sub-suc, sub-zero, zero-sub, zero-mul, suc-mul, add-assoc}
+use mathlib.Core.Path.{_≡_, refl, sym, ap, _∙_}
 use mathlib.Core.List.{List, [], _∷_, _++_, append-assoc, append-nil}
 use lib.IntN.{ℤ, pos}
-use lib.ListN.{length, getD, take, drop, length-append, List·getD-append}
-use lib.Seq.{take-at, drop-at, drop-drop, getD-drop, getD-take}
+use lib.ListN.{length, getD, take, drop, length-append, length-replicate, take-append-drop, List·getD-append}
+use lib.Seq.{take-at, drop-at, drop-drop, drop-append-le, drop-append-seam, getD-drop, getD-take}
 use Rattle.rules.specs.Words.{cells, zeros, padded}
 use Rattle.records.specs.Cells.{written, recordAt, withRecord, changed}
 
@@ -17,6 +17,11 @@ drop-zeros zero m = rw sub-zero
 drop-zeros (suc k) zero = rw zero-sub
 drop-zeros (suc k) (suc m) = rw (suc-sub-suc m k) (drop-zeros k m)
 
+pub take-zeros : (k n : ℕ) → k ≤ n → take k (zeros n) ≡ zeros k
+take-zeros zero n h = refl
+take-zeros (suc k) zero h = absurd (omega arith)
+take-zeros (suc k) (suc n) h = ap (λ (l : List ℤ). pos 0 ∷ l) (take-zeros k n (omega arith))
+
 -- cleared cells hold no record
 pub padded-none : (n : ℕ) → zeros n ≡ padded n []
 padded-none n = rw sub-zero
@@ -25,6 +30,23 @@ padded-none n = rw sub-zero
 pub written-after : (xs ys v : List ℤ) (b n : ℕ) → length xs ≡ b → length v ≡ n → written (xs ++ ys) b v ≡ xs ++ (v ++ drop n ys)
 unfolding written
 written-after xs ys v b n e g = rw (take-at xs ys b e, ← drop-drop, drop-at xs ys b e, g, append-assoc)
+
+-- words z that stand behind w already need no writing
+pub written-front : (l : List ℤ) (at : ℕ) (w z rest : List ℤ) → drop (at + length w) l ≡ z ++ rest → written l at (w ++ z) ≡ written l at w
+unfolding written
+written-front l at w z rest h = rw (length-append w z, ← add-assoc at (length w) (length z), ← drop-drop (length z) (at + length w) l, h, drop-append-seam, append-assoc (take at l) (w ++ z), append-assoc (take at l) w, append-assoc w z)
+
+-- a record's last zeros need no writing in cleared cells
+pub record-front : (size : ℕ) (l : List ℤ) (number k : ℕ) (w : List ℤ) → length w + k ≡ size → recordAt size l number ≡ zeros size → withRecord size l number (w ++ zeros k) ≡ withRecord size l number w
+unfolding recordAt
+record-front size l number k w e h =
+    let start = number * size in
+    let rest = drop size (drop start l) in
+    let m : size - length w ≡ k = omega arith in
+    written-front l start w (zeros k) rest
+    (sym (drop-drop (length w) start l)
+    ∙ ap (drop (length w)) (sym (take-append-drop size (drop start l)))
+    ∙ rw (h, drop-append-le (length w) (zeros size) rest (rw length-replicate (omega arith)), drop-zeros (length w) size, m))
 
 -- a word of a record, read in the cells
 pub record-word : (size : ℕ) (l : List ℤ) (n k : ℕ) → k < size → getD (recordAt size l n) k (pos 0) ≡ getD l (n * size + k) (pos 0)
@@ -84,6 +106,13 @@ module _ {A : Type 0} (words : A → List ℤ) (size : ℕ) (len : (x : A) → l
     padded-added x l h =
         let e : n - length (cells words l) - size ≡ n - length (cells words l ++ words x) = rw (length-append, len x) (omega arith) in
         rw (record-added x l, drop-zeros, e)
+
+    -- the record behind them
+    pub padded-blank : (l : List A) → length l * size + size ≤ n → recordAt size (padded n (cells words l)) (length l) ≡ zeros size
+    unfolding recordAt
+    padded-blank l h =
+        let zs = zeros (n - length (cells words l)) in
+        rw (drop-at (cells words l) zs (length l * size) (length-cells l)) (take-zeros size (n - length (cells words l)) (omega (arith, length-cells l)))
 
     pub padded-changed : (p : List A) (x : A) (q : List A) (f : List ℤ → List ℤ) (y : A) → f (words x) ≡ words y
         → changed size f (padded n (cells words (p ++ x ∷ q))) (length q) ≡ padded n (cells words (p ++ y ∷ q))

@@ -12,12 +12,12 @@ use lib.Seq.{take-append-add, drop-append-add, length-take-le}
 use lib.Dec.{leb}
 use lib.Pow.{pow-lt}
 use Rattle.rules.specs.Limits.{noteSize, pitchSize, pitchCapacity, markCapacity}
-use Rattle.rules.specs.Records.{Pitch, Heading, Notations}
+use Rattle.rules.specs.Records.{Pitch, Notations}
 use Rattle.rules.specs.Rules.{withTieStart, withMark}
 use Rattle.rules.specs.Words.{cells, zeros, padded, pitchWords, pitchCells, powerOfTwo, marksWord, Numbered, noteWords}
 use Rattle.records.specs.Cells.{written}
-use Rattle.records.specs.Notes.{opened, tiesAt, pitchesAt, markLimit, pitched, tieStarted, marked}
-use Rattle.records.proofs.CellLaws.{length-cells, padded-added}
+use Rattle.records.specs.Notes.{tiesAt, pitchesAt, markLimit, pitched, tieStarted, marked}
+use Rattle.records.proofs.CellLaws.{take-zeros, length-cells, padded-added}
 
 -- ---- lengths
 
@@ -31,11 +31,6 @@ length-note r =
     (length-take-le (pitchSize * pitchCapacity) (cells pitchWords qs ++ zeros (pitchSize * pitchCapacity)) (rw (length-append, length-replicate) (omega arith)))
 
 -- ---- pitches
-
-take-zeros : (k n : ℕ) → k ≤ n → take k (zeros n) ≡ zeros k
-take-zeros zero n h = refl
-take-zeros (suc k) zero h = absurd (omega arith)
-take-zeros (suc k) (suc n) h = ap (λ (l : List ℤ). pos 0 ∷ l) (take-zeros k n (omega arith))
 
 -- words that fit, cut after their zeros
 cut-padded : (n : ℕ) (xs : List ℤ) → length xs ≤ n → take n (xs ++ zeros n) ≡ padded n xs
@@ -63,10 +58,6 @@ pitched-note q r h =
     let qs = r .note .pitches in
     let head = take pitchesAt (noteWords (record { bar = r .bar; note = record { heading = r .note .heading; pitches = q ∷ qs; notations = r .note .notations } })) in
     rw (add-one (length qs)) (written-past head (pitchCells qs) (pitchWords q) (length qs * pitchSize) ∙ ap (λ (l : List ℤ). head ++ l) (pitch-added q qs h))
-
--- the first pitch of a new record
-pub opened-note : (bar : ℕ) (h : Heading) (ends : Bool) (q : Pitch) → pitched q (noteWords (opened bar h ends [])) ≡ noteWords (opened bar h ends (q ∷ []))
-opened-note bar h ends q = pitched-note q (opened bar h ends []) (omega arith)
 
 -- ---- notations
 

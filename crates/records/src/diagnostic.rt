@@ -1,14 +1,16 @@
 // Diagnostics, made of lines, places and offsets that can't be taken for one another.
 ghost use mathlib.Core.Path.{_≡_};
-ghost use Prim.Native.Nat.{_+_, _*_, _≤_, _<_};
+ghost use Prim.Native.Nat.{_+_, _*_, _<_};
+ghost use mathlib.Core.Bool.{cond};
 ghost use mathlib.Core.List.{[], _∷_};
 ghost use lib.ListN.{length};
+ghost use lib.Dec.{leb};
 ghost use lib.IntN.{pos};
 ghost use Rattle.rules.specs.Limits.{diagnosticLimit, diagnosticSize};
 ghost use Rattle.rules.specs.Records.{atLine, atField, atData, textPart, parentheses, number};
 ghost use Rattle.rules.specs.Diagnostics.{diagnostic};
 ghost use Rattle.rules.specs.Words.{diagnosticWords};
-ghost use Rattle.records.specs.Cells.{wordLimit};
+ghost use Rattle.records.specs.Cells.{wordLimit, withRecord};
 ghost use Rattle.records.specs.Diagnostics.{sixWords, countAfter, diagnosed};
 use super::Line;
 use super::Offset;
@@ -97,14 +99,25 @@ fn words_of(d: Diagnostic) -> [i32; DIAGNOSTIC]
     ]
 }
 
-// The diagnostic stored after `count` others, while these are below 1,024; the new count.
+// The diagnostic stored as record `count`, where the cells have room for it.
+fn put(cells: &mut [i32], count: usize, d: Diagnostic)
+    requires { ⌜ count < diagnosticLimit ⌝ }
+    ensures { λ _. ⌜ now (cells .exit) ≡ cond (leb (count * diagnosticSize + diagnosticSize) (length (now (cells .entry)))) (withRecord diagnosticSize (now (cells .entry)) count (sixWords d)) (now (cells .entry)) ⌝ }
+{
+    let at = count * DIAGNOSTIC;
+    if cells.len() < at + DIAGNOSTIC {
+        return;
+    }
+    let words = words_of(d);
+    write(cells, at, &words);
+}
+
+// The diagnostic stored after `count` others, while these are below 1,024 and the cells have room; the new count.
 pub fn store_diagnostic(cells: &mut [i32], count: usize, d: Diagnostic) -> usize
-    requires { ⌜ diagnosticLimit * diagnosticSize ≤ length (now cells) ⌝ }
     ensures { λ r. ⌜ (r ≡ countAfter count) × (now (cells .exit) ≡ diagnosed (now (cells .entry)) count (sixWords d)) ⌝ }
 {
     if count < DIAGNOSTICS {
-        let words = words_of(d);
-        write(cells, count * DIAGNOSTIC, &words);
+        put(cells, count, d);
         return count + 1;
     }
     count

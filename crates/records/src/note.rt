@@ -3,14 +3,14 @@ ghost use mathlib.Core.Path.{_≡_};
 ghost use Prim.Native.Nat.{_+_, _*_, _≤_, _<_};
 ghost use mathlib.Core.Bool.{false, cond};
 ghost use mathlib.Core.List.{[], _∷_};
-ghost use lib.ListN.{length, getD, set};
+ghost use lib.ListN.{length, getD, set, take};
 ghost use lib.IntN.{pos};
 ghost use lib.Dec.{leb};
-ghost use Rattle.rules.specs.Limits.{noteSize, pitchCapacity, markCapacity};
+ghost use Rattle.rules.specs.Limits.{noteSize, pitchSize, pitchCapacity, markCapacity};
 ghost use Rattle.rules.specs.Rules.{plain};
-ghost use Rattle.rules.specs.Words.{noteWords, pitchWords, tiesWord, powerOfTwo};
+ghost use Rattle.rules.specs.Words.{zeros, noteWords, pitchWords, tiesWord, powerOfTwo};
 ghost use Rattle.records.specs.Cells.{recordAt, withRecord, changed, natural, wordLimit};
-ghost use Rattle.records.specs.Notes.{headingOf, pitchOf, opened, numberAt, pitchCountAt, pitched, tieStarted, marked, HasRoom};
+ghost use Rattle.records.specs.Notes.{headingOf, pitchOf, opened, numberAt, pitchCountAt, pitchesAt, pitched, tieStarted, marked, HasRoom};
 use super::Place;
 use super::cells::FIRST_PITCH;
 use super::cells::NOTE;
@@ -92,18 +92,19 @@ fn new_ties(ends: bool) -> u32
     0
 }
 
-// A new record without pitches.
-fn new_words(heading: Heading, ends: bool, bar: u32) -> [i32; NOTE]
+// The words of a new record without pitches, up to where these would begin.
+fn first_words(heading: Heading, ends: bool, bar: u32) -> [i32; FIRST_PITCH]
     requires { ⌜ (heading .place .0 < wordLimit) × (bar < wordLimit) ⌝ }
-    ensures { λ r. ⌜ r ≡ noteWords (opened bar (headingOf heading) ends []) ⌝ }
+    ensures { λ r. ⌜ r ≡ take pitchesAt (noteWords (opened bar (headingOf heading) ends [])) ⌝ }
 {
-    let mut words = [0i32; NOTE];
+    let mut words = [0i32; FIRST_PITCH];
     words[PLACE] = heading.place.0 as i32;
     words[KIND] = heading.kind as i32;
     words[DURATION] = heading.duration as i32;
     words[DOTS] = heading.dots as i32;
+    words[TIES] = new_ties(ends) as i32;
     words[BAR_NUMBER] = bar as i32;
-    with_number(words, TIES, new_ties(ends))
+    words
 }
 
 fn pitch_words(pitch: Pitch) -> [i32; PITCH]
@@ -116,6 +117,20 @@ fn pitch_words(pitch: Pitch) -> [i32; PITCH]
         pitch.octave as i32,
         pitch.alter as i32,
     ]
+}
+
+// The words of a new record with one pitch, up to its end.
+fn note_words(heading: Heading, ends: bool, bar: u32, pitch: Pitch) -> [i32; FIRST_PITCH + PITCH]
+    requires { ⌜ (heading .place .0 < wordLimit) × (bar < wordLimit) × (pitch .place .0 < wordLimit) ⌝ }
+    ensures { λ r. ⌜ r ≡ take (pitchesAt + pitchSize) (noteWords (opened bar (headingOf heading) ends (pitchOf pitch ∷ []))) ⌝ }
+{
+    let first = first_words(heading, ends, bar);
+    let new = pitch_words(pitch);
+    let mut words = [0i32; FIRST_PITCH + PITCH];
+    write(&mut words, 0, &first);
+    write(&mut words, FIRST_PITCH, &new);
+    words[PITCH_COUNT] = 1;
+    words
 }
 
 // One more pitch.
@@ -180,16 +195,16 @@ pub fn field(notes: &[i32], number: usize, at: usize) -> u32
     natural(word)
 }
 
-// A rest stored as record `number`.
+// A rest stored as record `number`, which is cleared.
 pub fn store_rest(notes: &mut [i32], number: usize, heading: Heading, bar: u32)
-    requires { ⌜ (number * noteSize + noteSize ≤ length (now notes)) × (heading .place .0 < wordLimit) × (bar < wordLimit) ⌝ }
+    requires { ⌜ (number * noteSize + noteSize ≤ length (now notes)) × (heading .place .0 < wordLimit) × (bar < wordLimit) × (recordAt noteSize (now notes) number ≡ zeros noteSize) ⌝ }
     ensures { λ _. ⌜ now (notes .exit) ≡ withRecord noteSize (now (notes .entry)) number (noteWords (opened bar (headingOf heading) false [])) ⌝ }
 {
-    let words = new_words(heading, false, bar);
-    store(notes, number, words);
+    let words = first_words(heading, false, bar);
+    write(notes, number * NOTE, &words);
 }
 
-// A note with one pitch stored as record `number`; a tie may end at it.
+// A note with one pitch stored as record `number`, which is cleared; a tie may end at it.
 pub fn store_note(
     notes: &mut [i32],
     number: usize,
@@ -198,12 +213,11 @@ pub fn store_note(
     bar: u32,
     pitch: Pitch,
 )
-    requires { ⌜ (number * noteSize + noteSize ≤ length (now notes)) × (heading .place .0 < wordLimit) × (bar < wordLimit) × (pitch .place .0 < wordLimit) ⌝ }
+    requires { ⌜ (number * noteSize + noteSize ≤ length (now notes)) × (heading .place .0 < wordLimit) × (bar < wordLimit) × (pitch .place .0 < wordLimit) × (recordAt noteSize (now notes) number ≡ zeros noteSize) ⌝ }
     ensures { λ _. ⌜ now (notes .exit) ≡ withRecord noteSize (now (notes .entry)) number (noteWords (opened bar (headingOf heading) ends (pitchOf pitch ∷ []))) ⌝ }
 {
-    let words = new_words(heading, ends, bar);
-    let opened = with_pitch(words, pitch);
-    store(notes, number, opened);
+    let words = note_words(heading, ends, bar, pitch);
+    write(notes, number * NOTE, &words);
 }
 
 // One more pitch in record `number`.

@@ -4,7 +4,8 @@ use mathlib.Core.Bool.{Bool, not, cond, _&&_, _||_}
 use mathlib.Core.List.{List, [], _∷_}
 use lib.ListN.{take, drop, getD}
 use lib.Dec.{eqb, leb, ltb}
-use Rattle.rules.specs.Values.{clefOf, keyOf, meterOf, countOf}
+use mathlib.Core.Option.{Option}
+use Rattle.rules.specs.Values.{Clef, Key, Meter, clefOf, keyOf, meterOf, countOf}
 use Rattle.rules.specs.Tokens as rules
 use Rattle.rules.specs.Records.{isSome, parentheses, Diagnostic}
 use Rattle.rules.specs.Rules.{Closing}
@@ -12,7 +13,9 @@ use Rattle.rules.specs.Diagnostics.{diagnostic, unless, here, afterFirst, allOf
 use Rattle.records.specs.Cells.{wordLimit}
 use Rattle.values.specs.Rhythm.{octaveIn}
 use Rattle.values.specs.declared.rhythm.Octave.{Octave}
+use Rattle.values.specs.declared.pae.Counts.{Counts}
 use Rattle.values.specs.declared.pae.Start.{Start}
+use Rattle.values.specs.declared.pae.Groups.{Groups}
 use Rattle.values.specs.declared.pae.Pae.{Pae}
 use Rattle.decode.specs.Decode.{tokenIn}
 use Rattle.decode.specs.declared.Figure.{Figure}
@@ -22,8 +25,6 @@ use Rattle.decode.specs.declared.Marking.the-variants as m
 use Rattle.decode.specs.declared.Token.{Token}
 use Rattle.decode.specs.declared.Token.the-variants as t
 use Rattle.steps.specs.State.{hasContent, openLength}
-use Rattle.remarks.specs.declared.Attribute.{Attribute}
-use Rattle.remarks.specs.declared.Attribute.the-variants as a
 use Rattle.remarks.specs.declared.Span.{Span}
 
 -- ---- where a token stands
@@ -55,8 +56,14 @@ abbrev pub after : ℕ → rules.Item → Diagnostic
 after d x = diagnostic d (here x) (afterFirst x)
 
 -- what the value of a `%`, `$` or `@` gives; d3 if the open bar has a note
-abbrev pub attributeFound : Attribute → Bool → List ℕ → rules.Item → List Diagnostic
-attributeFound attribute content value x = cond content (after 3 x ∷ []) (elim attribute [ a.Clef ↦ clefDiagnosed (here x) (afterFirst x) (clefOf value) | a.Key ↦ keyDiagnosed (here x) (afterFirst x) (keyOf value) | a.Meter ↦ meterDiagnosed (here x) (afterFirst x) (meterOf value) ])
+abbrev pub clefFound : Bool → Clef → rules.Item → List Diagnostic
+clefFound content value x = cond content (after 3 x ∷ []) (clefDiagnosed (here x) (afterFirst x) value)
+
+abbrev pub keyFound : Bool → Key → rules.Item → List Diagnostic
+keyFound content value x = cond content (after 3 x ∷ []) (keyDiagnosed (here x) (afterFirst x) value)
+
+abbrev pub meterFound : Bool → Option Meter → rules.Item → List Diagnostic
+meterFound content value x = cond content (after 3 x ∷ []) (meterDiagnosed (here x) (afterFirst x) value)
 
 -- an octave outside 0 to 9, d8
 abbrev pub octaveFound : Octave → rules.Item → List Diagnostic
@@ -75,12 +82,12 @@ figureFound figure st x = elim figure [
 ]
 
 -- `;` without `(` noted or without a count, d12
-abbrev pub countFound : Bool → List ℕ → rules.Item → List Diagnostic
-countFound noted value x = unless (noted && isSome (countOf value)) (after 12 x)
+abbrev pub countFound : Bool → Option ℕ → rules.Item → List Diagnostic
+countFound noted count x = unless (noted && isSome count) (after 12 x)
 
 -- `)` without `(`, d13; start beyond the bar's length, d10; else what the group closes to
-abbrev pub groupFound : Pae → Closing → rules.Item → List Diagnostic
-groupFound st closing x = cond (st .groups .paren .noted) (cond (ltb (openLength (st .counts)) (st .groups .paren .length)) (diagnostic 10 (here x) parentheses ∷ []) (closingDiagnosed x closing)) (whole 13 x ∷ [])
+abbrev pub groupFound : Groups → Counts → Closing → rules.Item → List Diagnostic
+groupFound g c closing x = cond (g .paren .noted) (cond (ltb (openLength c) (g .paren .length)) (diagnostic 10 (here x) parentheses ∷ []) (closingDiagnosed x closing)) (whole 13 x ∷ [])
 
 -- `+` after no note or grace, d16; `t` in a bar without a record, d14
 abbrev pub markingFound : Marking → List ℕ → Pae → Bool → Closing → rules.Item → List Diagnostic
@@ -88,8 +95,8 @@ markingFound marking value st ends closing x = elim marking [
   | m.BeamOpen ↦ []
   | m.BeamClose ↦ []
   | m.GroupOpen ↦ []
-  | m.GroupCount ↦ countFound (st .groups .paren .noted) value x
-  | m.GroupClose ↦ groupFound st closing x
+  | m.GroupCount ↦ countFound (st .groups .paren .noted) (countOf value) x
+  | m.GroupClose ↦ groupFound (st .groups) (st .counts) closing x
   | m.Tie ↦ unless ends (whole 16 x)
   | m.Trill ↦ unless (hasContent (st .counts)) (whole 14 x)
 ]
@@ -98,9 +105,9 @@ markingFound marking value st ends closing x = elim marking [
 -- value: the bytes after the token's first; ends: the open bar ends in a note; closing: what an open group closes to
 abbrev pub tokenFound : Token → List ℕ → Pae → Bool → Closing → rules.Item → List Diagnostic
 tokenFound token value st ends closing x = let content = hasContent (st .counts) in elim token [
-  | t.Clef ↦ attributeFound a.Clef content value x
-  | t.Key ↦ attributeFound a.Key content value x
-  | t.Meter ↦ attributeFound a.Meter content value x
+  | t.Clef ↦ clefFound content (clefOf value) x
+  | t.Key ↦ keyFound content (keyOf value) x
+  | t.Meter ↦ meterFound content (meterOf value) x
   | t.Octave octave ↦ octaveFound octave x
   | t.Duration ↦ []
   | t.Accidental alter ↦ []

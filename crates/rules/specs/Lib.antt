@@ -12,3 +12,4 @@ pub mod Words
 pub mod Reading
 pub mod LookBack
 pub mod Agreement
+pub mod Frame

@@ -106,7 +106,7 @@ module _ {a : Attributes} {s : rules.State} (w : Attributed a s) where
   idle e = kept (e ∙ (λ i. (same (s .clef) i, same (s .fifths) i, same (s .keyAlters) i, same (s .meter) i, same (s .left) i)))
 
   -- 'G-2, g-2, F-4, C-1 to C-5 give treble, treble8vb, ..'; another value keeps the clef
-  pub clef-set : (value : List ℕ) {s′ : rules.State} → attributesOf s′ ≡ (clefOf value .clef or s .clef, s .fifths, s .keyAlters, s .meter, s .left) → Attributed (clefSet value a) s′
+  pub clef-set : (value : List ℕ) {s′ : rules.State} → attributesOf s′ ≡ (clefOf value .clef or s .clef, s .fifths, s .keyAlters, s .meter, s .left) → Attributed (clefSet (clefOf value) a) s′
   clef-set value e = by (clefOf value .clef) (clef-of value) e
     where
       by : (c : Option ℕ) → Nonzero c → {s′ : rules.State} → attributesOf s′ ≡ (c or s .clef, s .fifths, s .keyAlters, s .meter, s .left)
@@ -123,7 +123,7 @@ module _ {a : Attributes} {s : rules.State} (w : Attributed a s) where
       }
 
   -- 'the alterations always hold'
-  pub key-set : (value : List ℕ) {s′ : rules.State} → attributesOf s′ ≡ (s .clef, some (keyOf value .fifths), keyOf value .alters, s .meter, s .left) → Attributed (keySet value a) s′
+  pub key-set : (value : List ℕ) {s′ : rules.State} → attributesOf s′ ≡ (s .clef, some (keyOf value .fifths), keyOf value .alters, s .meter, s .left) → Attributed (keySet (keyOf value) a) s′
   key-set value e = record {
     clef = (λ i. e i .0) ∙ w .clef;
     fifths = λ i. e i .1;
@@ -135,7 +135,7 @@ module _ {a : Attributes} {s : rules.State} (w : Attributed a s) where
   }
 
   -- '`c` 4/4 common, `c/` 2/2 cut, else two numbers ..'; 'Else d7, old meter kept'
-  pub meter-set : (value : List ℕ) {s′ : rules.State} → attributesOf s′ ≡ (s .clef, s .fifths, s .keyAlters, meterOf value or s .meter, s .left) → Attributed (meterSet value a) s′
+  pub meter-set : (value : List ℕ) {s′ : rules.State} → attributesOf s′ ≡ (s .clef, s .fifths, s .keyAlters, meterOf value or s .meter, s .left) → Attributed (meterSet (meterOf value) a) s′
   meter-set value e = by (meterOf value) (meter-of value) e
     where
       by : (m : Option Meter) → Metered m → {s′ : rules.State} → attributesOf s′ ≡ (s .clef, s .fifths, s .keyAlters, m or s .meter, s .left)
@@ -172,19 +172,19 @@ module _ (place offset size b : ℕ) (value : List ℕ) {a : Attributes} {s : ru
   After token a′ = Attributed a′ (rules.step (itemIn place offset size b value token) s)
 
   -- '`%`, `$`, `@` are taken only while the open bar has no note': `%`
-  clef-agrees : (content : Bool) → isEmpty (s .openBar) ≡ not content → After t.Clef (cond content a (clefSet value a))
+  clef-agrees : (content : Bool) → isEmpty (s .openBar) ≡ not content → After t.Clef (cond content a (clefSet (clefOf value) a))
   unfolding rules.step
   clef-agrees true e = kept w (rw e)
   clef-agrees false e = clef-set w value (rw e)
 
   -- `$`
-  key-agrees : (content : Bool) → isEmpty (s .openBar) ≡ not content → After t.Key (cond content a (keySet value a))
+  key-agrees : (content : Bool) → isEmpty (s .openBar) ≡ not content → After t.Key (cond content a (keySet (keyOf value) a))
   unfolding rules.step
   key-agrees true e = kept w (rw e)
   key-agrees false e = key-set w value (rw e)
 
   -- `@`
-  meter-agrees : (content : Bool) → isEmpty (s .openBar) ≡ not content → After t.Meter (cond content a (meterSet value a))
+  meter-agrees : (content : Bool) → isEmpty (s .openBar) ≡ not content → After t.Meter (cond content a (meterSet (meterOf value) a))
   unfolding rules.step
   meter-agrees true e = kept w (rw e)
   meter-agrees false e = meter-set w value (rw e)

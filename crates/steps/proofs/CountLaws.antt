@@ -1,7 +1,7 @@
 -- What the program reads in its counts and in the lent notes is what the rules read in the open bar (01, 'The lent records'). Assumes nothing.
-use Prim.Native.Nat.{ℕ, suc, _+_, _-_, _<_, _≤_}
+use Prim.Native.Nat.{ℕ, suc, _+_, _-_, _*_, _<_, _≤_}
 use native.Mathlib.Omega.{arith}
-use mathlib.Core.Path.{_≡_, sym}
+use mathlib.Core.Path.{_≡_, sym, _∙_}
 use mathlib.Core.Bool.{not, _&&_}
 use mathlib.Core.List.{List, [], _∷_}
 use lib.IntN.{ℤ}
@@ -10,11 +10,12 @@ use borrow.Author.Tests.{lt-ltb, le-ltb, eq-eqb, ne-eqb}
 use Rattle.rules.specs.Limits.{noteSize}
 use Rattle.rules.specs.Records.{Note, Bar, isEmpty, notesOf}
 use Rattle.rules.specs.Rules.{State, endsInNote, joins, repeatedBar}
-use Rattle.rules.specs.Words.{noteWords}
+use Rattle.rules.specs.Words.{zeros, noteWords}
 use Rattle.values.specs.declared.pae.Voice.{Voice}
 use Rattle.values.specs.declared.pae.Counts.{Counts}
+use Rattle.records.specs.Cells.{recordAt}
 use Rattle.records.specs.Notes.{kindAt, pitchCountAt, numberAt}
-use Rattle.records.proofs.CellLaws.{length-cells}
+use Rattle.records.proofs.CellLaws.{length-cells, padded-blank}
 use Rattle.records.proofs.NoteLaws.{length-note}
 use Rattle.records.proofs.GroupLaws.{wordsIn}
 use Rattle.records.proofs.StoredLaws.{length-stored, last-word}
@@ -37,6 +38,12 @@ module _ {size : ℕ} {o : List Note} {bs : List Bar} {c : Counts} {notes : List
 
   pub last-below : c .last ≤ c .first
   last-below = omega (arith, r .first, r .last, last-first bs)
+
+  -- the record behind the stored ones is cleared
+  pub blank-behind : c .notes * noteSize + noteSize ≤ size → recordAt noteSize notes (c .notes) ≡ zeros noteSize
+  blank-behind h =
+      let e : c .notes ≡ length (recordsIn o bs) = r .count ∙ sym (length-stored o bs) in
+      rw (r .written, e) (padded-blank noteWords noteSize length-note size (recordsIn o bs) (rw (← e) h))
 
   -- all other cells are 0
   pub length-notes : length notes ≡ size

@@ -9,7 +9,7 @@ use mathlib.Core.Option.{none, some, Option·getD}
 use mathlib.Core.List.{List, []}
 use lib.IntN.{ℤ, pos}
 use lib.ListN.{length, getD, set, replicate, getD-replicate, length-set}
-use lib.Seq.{getD-set-same, getD-set-other}
+use lib.Seq.{getD-set-same, getD-set-other, set-getD}
 use borrow.Author.Tests.{eq-eqb, ne-eqb}
 use Rattle.rules.specs.Tokens.{letter}
 use Rattle.rules.specs.Records.{_or_, given}
@@ -18,6 +18,14 @@ use Rattle.values.specs.declared.pae.Attributes.{Attributes}
 use Rattle.values.specs.declared.pae.Voice.{Voice}
 use Rattle.steps.specs.Accidentals.{Table, isNone, alterIn, cleared, entry, entered, lettered, alterOf}
 use Rattle.steps.specs.Relation.{Voiced, Attributed, Tabled}
+
+-- the entry that a letter leaves, put where it stands
+pub entered-lettered : (table : Table) (step : ℕ) (v : Voice) → entered table step (v .octave) (cond (isNone (v .accidental)) (entry table step (v .octave)) (v .accidental)) ≡ lettered step v table
+entered-lettered table step v = go (isNone (v .accidental))
+  where
+    go : (b : Bool) → entered table step (v .octave) (cond b (entry table step (v .octave)) (v .accidental)) ≡ cond b table (entered table step (v .octave) (v .accidental))
+    go true = ap (set table step) (set-getD (getD table step []) (v .octave) (pos 0)) ∙ set-getD table step []
+    go false = refl
 
 -- accidentals that stay
 pub tabled-same : {table : Table} {s s′ : rules.State} → s′ .accidentals ≡ s .accidentals → Tabled table s → Tabled table s′

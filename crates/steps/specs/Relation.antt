@@ -7,11 +7,12 @@ use mathlib.Core.List.{List, [], _∷_, _++_, map}
 use lib.IntN.{ℤ, pos}
 use lib.ListN.{length, getD}
 use lib.Dec.{eqb}
-use Rattle.rules.specs.Limits.{noteLimit, noteSize, barSize, diagnosticSize}
+use Rattle.rules.specs.Limits.{noteLimit, noteSize, barSize}
 use Rattle.rules.specs.Values.{Meter}
 use Rattle.rules.specs.Records.{Note, Bar, notesOf, Diagnostic}
 use Rattle.rules.specs.Rules as rules
-use Rattle.rules.specs.Words.{Numbered, inBar, numbered, cells, padded, noteWords, barCells, firstOnes, diagnosticCells}
+use Rattle.rules.specs.Words.{Numbered, inBar, numbered, cells, padded, noteWords, barCells, firstOnes}
+use Rattle.records.specs.Diagnostics.{heldCells}
 use Rattle.values.specs.declared.pae.Attributes.{Attributes}
 use Rattle.values.specs.declared.pae.Voice.{Voice}
 use Rattle.values.specs.declared.pae.Counts.{Counts}
@@ -116,7 +117,7 @@ pub record Figured (figure : List Note) (count : ℕ) (held : List ℤ) : Type 0
   pub counted : count ≡ length records
   pub written : held ≡ cells noteWords records ++ rest
 
--- diagnostics in scratch cells, six words each
+-- diagnostics in so many scratch cells, six words each: those that find room stand in them, all count
 pub record Diagnosed (size : ℕ) (ds : List Diagnostic) (count : ℕ) (scratch : List ℤ) : Type 0 where
   pub counted : count ≡ length (firstOnes ds)
-  pub written : scratch ≡ padded size (diagnosticCells ds)
+  pub written : scratch ≡ heldCells size ds

@@ -1,11 +1,10 @@
 -- Changes of the reading state, part by part; over the program's own types. Assumes nothing.
 use Prim.Native.Nat.{ℕ, _+_, _-_}
 use mathlib.Core.Bool.{Bool, true, false, cond}
-use mathlib.Core.List.{List}
 use lib.IntN.{ℤ, pos}
-use lib.ListN.{length}
 use lib.Dec.{eqb, leb, ltb}
-use Rattle.rules.specs.Values.{clefOf, keyOf, meterOf, countOf}
+use mathlib.Core.Option.{Option}
+use Rattle.rules.specs.Values.{Clef, Key, Meter}
 use Rattle.rules.specs.Records.{given}
 use Rattle.values.specs.declared.pae.Attributes.{Attributes}
 use Rattle.values.specs.declared.pae.Voice.{Voice}
@@ -42,16 +41,16 @@ openLength c = c .notes - c .first
 
 -- ---- attributes
 
--- a clef that the value names
-abbrev pub clefSet : List ℕ → Attributes → Attributes
-clefSet value a = given (clefOf value .clef) a (λ c. record { clef = c; keyed = a .keyed; fifths = a .fifths; numerator = a .numerator; denominator = a .denominator; symbol = a .symbol; left = a .left; alters = a .alters })
+-- a clef that is named
+abbrev pub clefSet : Clef → Attributes → Attributes
+clefSet value a = given (value .clef) a (λ c. record { clef = c; keyed = a .keyed; fifths = a .fifths; numerator = a .numerator; denominator = a .denominator; symbol = a .symbol; left = a .left; alters = a .alters })
 
-abbrev pub keySet : List ℕ → Attributes → Attributes
-keySet value a = record { clef = a .clef; keyed = true; fifths = keyOf value .fifths; numerator = a .numerator; denominator = a .denominator; symbol = a .symbol; left = a .left; alters = keyOf value .alters }
+abbrev pub keySet : Key → Attributes → Attributes
+keySet key a = record { clef = a .clef; keyed = true; fifths = key .fifths; numerator = a .numerator; denominator = a .denominator; symbol = a .symbol; left = a .left; alters = key .alters }
 
--- a meter that the value names
-abbrev pub meterSet : List ℕ → Attributes → Attributes
-meterSet value a = given (meterOf value) a (λ m. record { clef = a .clef; keyed = a .keyed; fifths = a .fifths; numerator = m .numerator; denominator = m .denominator; symbol = m .symbol; left = a .left; alters = a .alters })
+-- a meter that is named
+abbrev pub meterSet : Option Meter → Attributes → Attributes
+meterSet meter a = given meter a (λ m. record { clef = a .clef; keyed = a .keyed; fifths = a .fifths; numerator = m .numerator; denominator = m .denominator; symbol = m .symbol; left = a .left; alters = a .alters })
 
 abbrev pub leftSet : ℕ → Attributes → Attributes
 leftSet left a = record { clef = a .clef; keyed = a .keyed; fifths = a .fifths; numerator = a .numerator; denominator = a .denominator; symbol = a .symbol; left = left; alters = a .alters }
@@ -135,8 +134,8 @@ abbrev pub parenSet : Start → Groups → Groups
 parenSet start g = record { figure = g .figure; beam = g .beam; paren = start; count = noCount }
 
 -- `;` sets the open group's count
-abbrev pub countSet : List ℕ → Groups → Groups
-countSet value g = cond (g .paren .noted) (given (countOf value) g (λ n. record { figure = g .figure; beam = g .beam; paren = g .paren; count = n })) g
+abbrev pub countSet : Option ℕ → Groups → Groups
+countSet count g = cond (g .paren .noted) (given count g (λ n. record { figure = g .figure; beam = g .beam; paren = g .paren; count = n })) g
 
 -- ---- the figure
 

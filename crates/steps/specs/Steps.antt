@@ -2,6 +2,7 @@
 use Prim.Native.Nat.{ℕ}
 use mathlib.Core.Bool.{Bool, false, cond, _||_}
 use mathlib.Core.List.{List}
+use Rattle.rules.specs.Values.{clefOf, keyOf, meterOf, countOf}
 use Rattle.values.specs.declared.pae.Attributes.{Attributes}
 use Rattle.values.specs.declared.pae.Voice.{Voice}
 use Rattle.values.specs.declared.pae.Counts.{Counts}
@@ -19,9 +20,9 @@ use Rattle.steps.specs.State.{hasContent, openLength, clefSet, keySet, m
 -- taken only while the open bar has no note
 abbrev pub attributesNext : Token → List ℕ → Pae → Attributes
 attributesNext token value st = let a = st .attributes in let content = hasContent (st .counts) in elim token [
-  | t.Clef ↦ cond content a (clefSet value a)
-  | t.Key ↦ cond content a (keySet value a)
-  | t.Meter ↦ cond content a (meterSet value a)
+  | t.Clef ↦ cond content a (clefSet (clefOf value) a)
+  | t.Key ↦ cond content a (keySet (keyOf value) a)
+  | t.Meter ↦ cond content a (meterSet (meterOf value) a)
   | t.Octave octave ↦ a
   | t.Duration ↦ a
   | t.Accidental alter ↦ a
@@ -93,7 +94,7 @@ countsNext token joined n c = elim token [
 
 -- n: the open bar's length
 abbrev pub markingGroups : Marking → List ℕ → ℕ → Groups → Groups
-markingGroups marking value n g = elim marking [ m.BeamOpen ↦ beamSet (startAt n) g | m.BeamClose ↦ beamSet noStart g | m.GroupOpen ↦ parenSet (startAt n) g | m.GroupCount ↦ countSet value g | m.GroupClose ↦ parenSet noStart g | m.Tie ↦ g | m.Trill ↦ g ]
+markingGroups marking value n g = elim marking [ m.BeamOpen ↦ beamSet (startAt n) g | m.BeamClose ↦ beamSet noStart g | m.GroupOpen ↦ parenSet (startAt n) g | m.GroupCount ↦ countSet (countOf value) g | m.GroupClose ↦ parenSet noStart g | m.Tie ↦ g | m.Trill ↦ g ]
 
 abbrev pub figureGroups : Figure → ℕ → Groups → Groups
 figureGroups figure n g = elim figure [ f.Mark ↦ figureMarked n g | f.Repeat ↦ g | f.Bar ↦ g ]

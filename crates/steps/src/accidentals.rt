@@ -3,7 +3,8 @@ ghost use mathlib.Core.Path.{_≡_};
 ghost use Prim.Native.Nat.{_<_};
 ghost use lib.ListN.{getD};
 ghost use lib.IntN.{pos};
-ghost use Rattle.steps.specs.Accidentals.{isNone, cleared, entry, entered, alterOf, lettered};
+ghost use mathlib.Core.Bool.{cond};
+ghost use Rattle.steps.specs.Accidentals.{isNone, cleared, alterOf};
 use values::pae::Attributes;
 use values::pae::Pae;
 use values::pae::Voice;
@@ -21,36 +22,14 @@ fn is_none(alter: i8) -> bool
     alter == Pae::NO_ACCIDENTAL
 }
 
-fn entry(table: [[i8; 10]; 7], step: usize, octave: usize) -> i8
-    requires { ⌜ (step < 7) × (octave < 10) ⌝ }
-    ensures { λ r. ⌜ r ≡ entry table step octave ⌝ }
+// The accidental that waits, if any, is entered.
+pub fn entry_after(here: i8, pending: i8) -> i8
+    ensures { λ r. ⌜ r ≡ cond (isNone pending) here pending ⌝ }
 {
-    table[step][octave]
-}
-
-fn entered(table: [[i8; 10]; 7], step: usize, octave: usize, alter: i8) -> [[i8; 10]; 7]
-    requires { ⌜ (step < 7) × (octave < 10) ⌝ }
-    ensures { λ r. ⌜ r ≡ entered table step octave alter ⌝ }
-{
-    let mut next = table;
-    next[step][octave] = alter;
-    next
-}
-
-// A letter enters the accidental that waits at its step and octave.
-pub fn lettered(table: [[i8; 10]; 7], voice: Voice, step: u8) -> [[i8; 10]; 7]
-    requires { ⌜ (step < 7) × (voice .octave < 10) ⌝ }
-    ensures { λ r. ⌜ r ≡ lettered step voice table ⌝ }
-{
-    if is_none(voice.accidental) {
-        return table;
+    if is_none(pending) {
+        return here;
     }
-    entered(
-        table,
-        step as usize,
-        voice.octave as usize,
-        voice.accidental,
-    )
+    pending
 }
 
 fn chosen(pending: i8, entry: i8, key: i8) -> i8
@@ -65,14 +44,13 @@ fn chosen(pending: i8, entry: i8, key: i8) -> i8
     pending
 }
 
-// A letter's alteration: the accidental that waits, else the entry at its step and octave, else its step's key alteration.
-pub fn alteration(table: [[i8; 10]; 7], voice: Voice, attributes: Attributes, step: u8) -> i8
-    requires { ⌜ (step < 7) × (voice .octave < 10) ⌝ }
-    ensures { λ r. ⌜ r ≡ alterOf (voice .accidental) (entry table step (voice .octave)) (getD (attributes .alters) step (pos 0)) ⌝ }
+// A letter's alteration: the accidental that waits, else the entry `here` at its step and octave, else its step's key alteration.
+pub fn alteration(here: i8, voice: Voice, attributes: Attributes, step: u8) -> i8
+    requires { ⌜ step < 7 ⌝ }
+    ensures { λ r. ⌜ r ≡ alterOf (voice .accidental) here (getD (attributes .alters) step (pos 0)) ⌝ }
 {
     let alters = attributes.alters;
     let at = step as usize;
     let key = alters[at];
-    let here = entry(table, at, voice.octave as usize);
     chosen(voice.accidental, here, key)
 }

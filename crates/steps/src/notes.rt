@@ -2,15 +2,13 @@
 ghost use mathlib.Core.Path.{_≡_};
 ghost use mathlib.Core.Bool.{false};
 ghost use Prim.Native.Nat.{_+_, _-_, _*_, _<_, _≤_};
-ghost use mathlib.Core.List.{[], _∷_};
 ghost use lib.ListN.{length};
 ghost use Rattle.rules.specs.Limits.{noteSize, pitchCapacity, markCapacity};
-ghost use Rattle.rules.specs.Words.{noteWords};
-ghost use Rattle.records.specs.Cells.{wordLimit, recordAt, withRecord, changed};
-ghost use Rattle.records.specs.Notes.{headingOf, pitchOf, opened, numberAt, pitchCountAt, markCountAt, marksAt, markLimit, pitched, tieStarted, marked};
-ghost use Rattle.steps.specs.State.{hasContent};
-ghost use Rattle.rules.specs.Rules.{heading};
-ghost use Rattle.steps.specs.Notes.{lastField, endsOf, joinsOf, isGraceIn, headingIn, pitchIn, joinedCells, openedCells, restCells, tiedCells, trilledCells};
+ghost use Rattle.rules.specs.Words.{zeros};
+ghost use Rattle.records.specs.Cells.{wordLimit, recordAt};
+ghost use Rattle.records.specs.Notes.{headingOf, pitchOf, pitchCountAt, markCountAt, marksAt, markLimit};
+ghost use Rattle.rules.specs.Rules.{kindOf, lengthOf, heading};
+ghost use Rattle.steps.specs.Notes.{lastField, endsOf, joinsOf, graceIn, isGraceIn, headingIn, pitchIn, joinedCells, openedCells, restCells, tiedCells, trilledCells};
 use records::Place;
 use records::note::Heading;
 use records::note::KIND;
@@ -65,20 +63,57 @@ fn heading(kind: u8, duration: u8, dots: u8, place: Place) -> Heading
     }
 }
 
-// The heading of an opened note: a `g` note is an eighth, no dots.
-fn opened_heading(voice: Voice, duration: u8, dots: u8, place: Place) -> Heading
-    ensures { λ r. ⌜ headingOf r ≡ headingIn voice (record { duration = duration; dots = dots }) (place .0) ⌝ }
+// The kind of an opened note.
+fn opened_kind(voice: Voice) -> u8
+    ensures { λ r. ⌜ r ≡ kindOf (graceIn (voice .grace)) (voice .group) ⌝ }
 {
     if voice.grace == 0 {
         if voice.group {
-            return heading(2, duration, dots, place);
+            return 2;
         }
-        return heading(0, duration, dots, place);
+        return 0;
     }
     if voice.grace == 1 {
-        return heading(2, duration, dots, place);
+        return 2;
     }
-    heading(3, 5, 0, place)
+    3
+}
+
+// A `g` note is an eighth, no dots.
+fn opened_duration(voice: Voice, duration: u8, dots: u8) -> u8
+    ensures { λ r. ⌜ r ≡ lengthOf (graceIn (voice .grace)) (record { duration = duration; dots = dots }) .duration ⌝ }
+{
+    if voice.grace == 0 {
+        return duration;
+    }
+    if voice.grace == 1 {
+        return duration;
+    }
+    5
+}
+
+fn opened_dots(voice: Voice, duration: u8, dots: u8) -> u8
+    ensures { λ r. ⌜ r ≡ lengthOf (graceIn (voice .grace)) (record { duration = duration; dots = dots }) .dots ⌝ }
+{
+    if voice.grace == 0 {
+        return dots;
+    }
+    if voice.grace == 1 {
+        return dots;
+    }
+    0
+}
+
+// The heading of an opened note.
+fn opened_heading(voice: Voice, duration: u8, dots: u8, place: Place) -> Heading
+    ensures { λ r. ⌜ headingOf r ≡ headingIn voice (record { duration = duration; dots = dots }) (place .0) ⌝ }
+{
+    Heading {
+        place,
+        kind: opened_kind(voice),
+        duration: opened_duration(voice, duration, dots),
+        dots: opened_dots(voice, duration, dots),
+    }
 }
 
 fn pitch(voice: Voice, step: u8, alter: i8, place: Place) -> Pitch
@@ -112,7 +147,7 @@ pub fn open(
     alter: i8,
     place: Place,
 )
-    requires { ⌜ (counts .notes * noteSize + noteSize ≤ length (now notes)) × (place .0 < wordLimit) × (counts .bars + 1 < wordLimit) ⌝ }
+    requires { ⌜ (counts .notes * noteSize + noteSize ≤ length (now notes)) × (place .0 < wordLimit) × (counts .bars + 1 < wordLimit) × (recordAt noteSize (now notes) (counts .notes) ≡ zeros noteSize) ⌝ }
     ensures { λ _. ⌜ now (notes .exit) ≡ openedCells counts voice (record { duration = duration; dots = dots }) step alter (place .0) (now (notes .entry)) ⌝ }
 {
     let h = opened_heading(voice, duration, dots, place);
@@ -129,7 +164,7 @@ pub fn open(
 
 // A rest.
 pub fn rest(notes: &mut [i32], counts: Counts, duration: u8, dots: u8, place: Place)
-    requires { ⌜ (counts .notes * noteSize + noteSize ≤ length (now notes)) × (place .0 < wordLimit) × (counts .bars + 1 < wordLimit) ⌝ }
+    requires { ⌜ (counts .notes * noteSize + noteSize ≤ length (now notes)) × (place .0 < wordLimit) × (counts .bars + 1 < wordLimit) × (recordAt noteSize (now notes) (counts .notes) ≡ zeros noteSize) ⌝ }
     ensures { λ _. ⌜ now (notes .exit) ≡ restCells counts (record { duration = duration; dots = dots }) (place .0) (now (notes .entry)) ⌝ }
 {
     let h = heading(1, duration, dots, place);

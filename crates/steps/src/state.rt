@@ -1,22 +1,22 @@
 // What a token makes of the reading state.
 ghost use mathlib.Core.Path.{_≡_};
-ghost use mathlib.Core.Bool.{true, false, cond, _||_};
-ghost use Prim.Native.Nat.{_+_, _≤_, _<_};
-ghost use Rattle.steps.specs.State.{withAttributes, withVoice, withCounts, withGroups, hasContent, openLength, clefSet, keySet, meterSet, newBar, barAttributes, octaveSet, accidentalSet, chordSet, graceSet, graceGroupSet, tieSet, letterJoined, letterOpened, counted, barCounted, repeatedCount, noStart, startAt, figureMarked, beamSet, parenSet, countSet, figureClosed};
+ghost use mathlib.Core.Bool.{true, false};
+ghost use Prim.Native.Nat.{_≤_, _<_};
+ghost use Rattle.text.specs.Counts.{numberIn};
+ghost use Rattle.values.specs.Attributes.{clefValue, keyValue, meterOption};
+ghost use Rattle.steps.specs.State.{hasContent, openLength, clefSet, keySet, meterSet, newBar, barAttributes, accidentalSet, graceSet, letterJoined, letterOpened, counted, barCounted, repeatedCount, noStart, startAt, figureMarked, beamSet, parenSet, countSet, figureClosed};
 use text::Count;
+use values::attributes::ClefValue;
+use values::attributes::Key;
 use values::attributes::Meter;
 use values::attributes::NamedClef;
 use values::attributes::clef_number;
-use values::attributes::clef_of;
-use values::attributes::key_of;
-use values::attributes::meter_of;
 use values::pae::Attributes;
 use values::pae::Counts;
 use values::pae::Groups;
 use values::pae::Pae;
 use values::pae::Start;
 use values::pae::Voice;
-use values::rhythm::Octave;
 
 // The open bar has a record.
 pub fn has_content(counts: Counts) -> bool
@@ -35,11 +35,11 @@ pub fn open_length(counts: Counts) -> usize
 
 // ---- clef, key, meter
 
-pub fn set_clef(attributes: Attributes, value: &[u8]) -> Attributes
-    ensures { λ r. ⌜ r ≡ clefSet (now (value .entry)) attributes ⌝ }
+// A clef that the value names.
+pub fn set_clef(attributes: Attributes, value: ClefValue) -> Attributes
+    ensures { λ r. ⌜ r ≡ clefSet (clefValue value) attributes ⌝ }
 {
-    let read = clef_of(value);
-    let named = read.clef;
+    let named = value.clef;
     let mut next = attributes;
     match named {
         NamedClef::Known(clef) => {
@@ -50,10 +50,9 @@ pub fn set_clef(attributes: Attributes, value: &[u8]) -> Attributes
     }
 }
 
-pub fn set_key(attributes: Attributes, value: &[u8]) -> Attributes
-    ensures { λ r. ⌜ r ≡ keySet (now (value .entry)) attributes ⌝ }
+pub fn set_key(attributes: Attributes, key: Key) -> Attributes
+    ensures { λ r. ⌜ r ≡ keySet (keyValue key) attributes ⌝ }
 {
-    let key = key_of(value);
     let alters = key.alters;
     let mut next = attributes;
     next.keyed = true;
@@ -62,10 +61,10 @@ pub fn set_key(attributes: Attributes, value: &[u8]) -> Attributes
     next
 }
 
-pub fn set_time(attributes: Attributes, value: &[u8]) -> Attributes
-    ensures { λ r. ⌜ r ≡ meterSet (now (value .entry)) attributes ⌝ }
+// A meter that the value names.
+pub fn set_time(attributes: Attributes, meter: Meter) -> Attributes
+    ensures { λ r. ⌜ r ≡ meterSet (meterOption meter) attributes ⌝ }
 {
-    let meter = meter_of(value);
     let mut next = attributes;
     match meter {
         Meter::Set {
@@ -82,31 +81,12 @@ pub fn set_time(attributes: Attributes, value: &[u8]) -> Attributes
     }
 }
 
-// ---- octave, accidental, chord, grace
-
-pub fn octave(mut voice: Voice, octave: Octave) -> Voice
-    ensures { λ r. ⌜ r ≡ octaveSet octave voice ⌝ }
-{
-    match octave {
-        Octave::Set(o) => {
-            voice.octave = o;
-            voice
-        }
-        Octave::OutOfRange => voice,
-    }
-}
+// ---- what waits for the next letter
 
 pub fn accidental(mut voice: Voice, alter: i8) -> Voice
     ensures { λ r. ⌜ r ≡ accidentalSet alter voice ⌝ }
 {
     voice.accidental = alter;
-    voice
-}
-
-pub fn chord(mut voice: Voice) -> Voice
-    ensures { λ r. ⌜ r ≡ chordSet voice ⌝ }
-{
-    voice.chord = true;
     voice
 }
 
@@ -118,21 +98,6 @@ pub fn grace(mut voice: Voice, slashed: bool) -> Voice
         return voice;
     }
     voice.grace = 1;
-    voice
-}
-
-pub fn grace_group(mut voice: Voice, begins: bool) -> Voice
-    ensures { λ r. ⌜ r ≡ graceGroupSet begins voice ⌝ }
-{
-    voice.group = begins;
-    voice
-}
-
-// A tie waits for its end, or no longer does.
-pub fn tie(mut voice: Voice, waits: bool) -> Voice
-    ensures { λ r. ⌜ r ≡ tieSet waits voice ⌝ }
-{
-    voice.tie = waits;
     voice
 }
 
@@ -286,11 +251,10 @@ pub fn paren_closed(mut groups: Groups) -> Groups
 }
 
 // `;` sets the open group's count.
-pub fn paren_counted(mut groups: Groups, value: &[u8]) -> Groups
-    ensures { λ r. ⌜ r ≡ countSet (now (value .entry)) groups ⌝ }
+pub fn paren_counted(mut groups: Groups, count: Count) -> Groups
+    ensures { λ r. ⌜ r ≡ countSet (numberIn count) groups ⌝ }
 {
     if groups.paren.noted {
-        let count = text::count(value);
         match count {
             Count::Number(n) => {
                 groups.count = n as u16;
@@ -315,34 +279,4 @@ pub fn figure_closed(groups: Groups, length: usize, old: usize) -> usize
         return old;
     }
     old
-}
-
-// ---- parts replaced
-
-pub fn with_attributes(mut st: Pae, attributes: Attributes) -> Pae
-    ensures { λ r. ⌜ r ≡ withAttributes attributes st ⌝ }
-{
-    st.attributes = attributes;
-    st
-}
-
-pub fn with_voice(mut st: Pae, voice: Voice) -> Pae
-    ensures { λ r. ⌜ r ≡ withVoice voice st ⌝ }
-{
-    st.voice = voice;
-    st
-}
-
-pub fn with_counts(mut st: Pae, counts: Counts) -> Pae
-    ensures { λ r. ⌜ r ≡ withCounts counts st ⌝ }
-{
-    st.counts = counts;
-    st
-}
-
-pub fn with_groups(mut st: Pae, groups: Groups) -> Pae
-    ensures { λ r. ⌜ r ≡ withGroups groups st ⌝ }
-{
-    st.groups = groups;
-    st
 }

@@ -2,7 +2,7 @@
 use Prim.Native.Nat.{ℕ, _+_, _-_, _*_, _<_, _≤_}
 use native.Mathlib.Omega.{arith}
 use mathlib.Core.Path.{_≡_, refl, sym, ap, subst, _∙_}
-use mathlib.Core.Bool.{Bool, true, false, cond}
+use mathlib.Core.Bool.{Bool, true, false}
 use mathlib.Core.List.{List, []}
 use lib.IntN.{ℤ}
 use lib.ListN.{length, drop}
@@ -18,7 +18,7 @@ use Rattle.records.specs.Cells.{recordAt}
 use Rattle.records.specs.Notes.{numberAt, markCountAt, HasRoom}
 use Rattle.records.specs.Groups.{timedCount, lastTimed, notatedWords, walked, beamed, fermataIn, onPart}
 use Rattle.records.specs.declared.group.Notation.the-variants.{Tuplet}
-use Rattle.records.proofs.GroupLaws.{timed-below}
+use Rattle.records.proofs.GroupLaws.{timed-below, timed-none}
 use Rattle.records.proofs.RenotedLaws.{renotated-few, fermata-one}
 use Rattle.records.proofs.StoredLaws.{part-timed}
 use Rattle.records.proofs.MarkingLaws as records
@@ -60,12 +60,12 @@ module _ {size : ℕ} {c : Counts} {notes : List ℤ} (s : State) (r : Stored si
     timed-from h = rw (length-open r, r .first, r .written) (part-timed size (s .openBar) (s .bars) (g .start) h)
 
     -- what the program finds
-    pub closing-read : cond (leb (g .start) (openLength c)) (closing (timedCount (partFrom (g .start)) (openLength c - g .start)) (g .count)) nothing ≡ closingOf g s
+    pub closing-read : closing (timedCount (partFrom (g .start)) (openLength c - g .start)) (g .count) ≡ closingOf g s
     closing-read = go (leb (g .start) (openLength c)) refl
       where
-        go : (b : Bool) → leb (g .start) (openLength c) ≡ b → cond b (closing (timedCount (partFrom (g .start)) (openLength c - g .start)) (g .count)) nothing ≡ closingOf g s
+        go : (b : Bool) → leb (g .start) (openLength c) ≡ b → closing (timedCount (partFrom (g .start)) (openLength c - g .start)) (g .count) ≡ closingOf g s
         go true e = rw (timed-from (omega (arith, leb-true (g .start) (openLength c) e, length-open r)))
-        go false e = sym (closing-beyond (omega (arith, leb-false (g .start) (openLength c) e, length-open r)))
+        go false e = let beyond = leb-false (g .start) (openLength c) e in let none : openLength c - g .start ≡ 0 = omega (arith, beyond) in rw (none, timed-none) (sym (closing-beyond (omega (arith, beyond, length-open r))))
 
     -- a group that closes to something starts within the bar
     within : (closingOf g s ≡ nothing → ⊥) → g .start ≤ length (s .openBar)

@@ -173,7 +173,7 @@ module _ {size : ℕ} {c : Counts} {notes : List ℤ} (place offset width : ℕ)
 
     -- 'The closing step gets only the open bar's notes from the group's start'
     pub group-close-stored : let start = g .paren .length in
-        After (marking groupClose) c (cond (g .paren .noted) (closedCells (cond (leb start (openLength c)) (closing (timedCount (drop ((c .first + start) * noteSize) notes) (openLength c - start)) (countIn (g .count))) nothing) (c .first + start) (openLength c - start) notes) notes)
+        After (marking groupClose) c (cond (g .paren .noted) (closedCells (closing (timedCount (drop ((c .first + start) * noteSize) notes) (openLength c - start)) (countIn (g .count))) (c .first + start) (openLength c - start) notes) notes)
     unfolding step
     group-close-stored = subst (λ (x : Option Group). Closed x (g .paren .noted)) (sym (w .paren)) (go (g .paren .noted))
       where
@@ -182,7 +182,7 @@ module _ {size : ℕ} {c : Counts} {notes : List ℤ} (place offset width : ℕ)
 
         Closed : Option Group → Bool → Type 0
         Closed x noted = Stored size (renotated (λ later n. given x (n .notations) (λ k. groupClosed k s later n)) 0 (s .openBar)) (s .bars) c
-            (cond noted (closedCells (cond (leb (group .start) (openLength c)) (closing (timedCount (drop ((c .first + group .start) * noteSize) notes) (openLength c - group .start)) (group .count)) nothing) (c .first + group .start) (openLength c - group .start) notes) notes)
+            (cond noted (closedCells (closing (timedCount (drop ((c .first + group .start) * noteSize) notes) (openLength c - group .start)) (group .count)) (c .first + group .start) (openLength c - group .start) notes) notes)
 
         go : (noted : Bool) → Closed (cond noted (some group) none) noted
         go false = untouched r

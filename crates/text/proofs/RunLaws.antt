@@ -1,14 +1,14 @@
 -- Laws of runs: what a scan that stands at a place learns of the byte there, and what a run over the whole text says. Assumes nothing.
-use Prim.Native.Nat.{ℕ, suc, _+_, _≤_, _<_}
+use Prim.Native.Nat.{ℕ, zero, suc, _+_, _≤_, _<_}
 use mathlib.Core.Path.{_≡_, refl}
-use mathlib.Core.Bool.{Bool, true, false, not, _&&_, _||_}
+use mathlib.Core.Bool.{Bool, true, false, _&&_, false≢true}
 use mathlib.Core.List.{List, [], _∷_}
 use native.Mathlib.Omega.{arith}
 use native.Mathlib.Numerals.{add-one, one-add}
 use lib.Dec.{eqb, eqb·zero-suc, eqb·suc-suc}
-use lib.ListN.{length, getD, drop, drop-of-length-le}
+use lib.ListN.{length, getD, take, drop, drop-of-length-le}
 use lib.Seq.{drop-cons}
-use Rattle.rules.specs.Text.{if_then_else_, runLength, every, has}
+use Rattle.rules.specs.Text.{if_then_else_, runLength, every}
 
 module _ (p : ℕ → Bool) (xs : List ℕ) (i : ℕ) where
   -- a byte of the class: the run is one longer than what follows
@@ -32,6 +32,17 @@ run-within p (x ∷ xs) = at (p x) (run-within p xs)
     at true h = omega arith
     at false h = omega arith
 
+-- where every byte of a beginning has the property, the run is its size and what follows it
+pub run-over : (p : ℕ → Bool) (n : ℕ) (xs : List ℕ) → n ≤ length xs → every p (take n xs) ≡ true → runLength p xs ≡ n + runLength p (drop n xs)
+run-over p zero xs h e = omega arith
+run-over p (suc n) [] h e = absurd (omega arith)
+run-over p (suc n) (x ∷ xs) h e = at (p x) (run-over p n xs (omega arith)) e
+  where
+    at : (t : Bool) → (every p (take n xs) ≡ true → runLength p xs ≡ n + runLength p (drop n xs)) → t && every p (take n xs) ≡ true
+        → (if t then 1 + runLength p xs else 0) ≡ suc n + runLength p (drop n xs)
+    at true f e = omega (arith, f e)
+    at false f e = absurd (false≢true e)
+
 -- a run is the whole exactly where every byte has the property
 pub run-all : (p : ℕ → Bool) (xs : List ℕ) → eqb (runLength p xs) (length xs) ≡ every p xs
 run-all p [] = refl
@@ -40,12 +51,3 @@ run-all p (x ∷ xs) = at (p x) (run-all p xs)
     at : (t : Bool) → eqb (runLength p xs) (length xs) ≡ every p xs → eqb (if t then 1 + runLength p xs else 0) (suc (length xs)) ≡ t && every p xs
     at true h = rw (one-add, eqb·suc-suc) h
     at false h = eqb·zero-suc (length xs)
-
--- every byte lacks the property exactly where none has it
-pub every-not : (p : ℕ → Bool) (xs : List ℕ) → every (λ b. not (p b)) xs ≡ not (has p xs)
-every-not p [] = refl
-every-not p (x ∷ xs) = at (p x) (every-not p xs)
-  where
-    at : (t : Bool) → every (λ b. not (p b)) xs ≡ not (has p xs) → not t && every (λ b. not (p b)) xs ≡ not (t || has p xs)
-    at true h = refl
-    at false h = h

@@ -1,11 +1,11 @@
 -- The classes of bytes, by the tests of document 01. Assumes nothing.
 use Prim.Native.Nat.{ℕ}
 use mathlib.Core.Bool.{Bool, not}
-use lib.Dec.{eqb, leb}
+use lib.Dec.{eqb}
 use Rattle.rules.specs.Text.{isBlank, isDigit, isAlphabetic}
 use Rattle.rules.specs.Cut.{isDuration, isClefByte, isKeyByte, isMeterByte}
 use Rattle.text.specs.declared.Class.{Class}
-use Rattle.text.specs.declared.Class.the-variants.{Same, Except, Blanks, NonBlanks, Digits, Durations, KeyBytes, MeterBytes, Alphabetic, Ascii}
+use Rattle.text.specs.declared.Class.the-variants.{Same, Except, Blanks, NonBlanks, Digits, Durations, KeyBytes, MeterBytes, Alphabetic}
 
 -- the bytes of each class
 abbrev pub inClass : Class → ℕ → Bool
@@ -18,4 +18,3 @@ inClass Durations b = isDuration b
 inClass KeyBytes b = isKeyByte b
 inClass MeterBytes b = isMeterByte b
 inClass Alphabetic b = isAlphabetic b
-inClass Ascii b = not (leb 128 b)

@@ -1,4 +1,5 @@
 pub mod Classes
 pub mod Counts
+pub mod Runs
 pub mod Parts
 pub mod Keys

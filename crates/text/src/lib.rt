@@ -4,21 +4,28 @@ mod number;
 pub use number::Count;
 ghost use mathlib.Core.Path.{_≡_};
 ghost use Prim.Native.Nat.{_+_, _<_, _≤_};
-ghost use mathlib.Core.Bool.{not};
+ghost use mathlib.Core.Bool.{cond, not};
 ghost use mathlib.Core.List.{[], _∷_};
 ghost use lib.ListN.{length, take, drop};
-ghost use lib.Dec.{leb};
+ghost use lib.Dec.{leb, eqb};
 ghost use Rattle.rules.specs.Text.{bytes, among, isBlank, isDigit, isNoteLetter, isAlphabetic, runLength, every, has, begins, isText, trimEnd};
 ghost use Rattle.rules.specs.Cut.{isClefByte, longestOf, tokenSize};
 ghost use Rattle.rules.specs.Values.{countOf};
 ghost use Rattle.rules.specs.Fields.{lineSize, keySize, isField};
 ghost use Rattle.text.specs.Classes.{inClass};
 ghost use Rattle.text.specs.Counts.{numberIn};
+ghost use Rattle.text.specs.Runs.{SameEnd};
 ghost use Rattle.text.specs.Parts.{Trimmed};
 ghost use Rattle.text.specs.Keys.{fieldKeyOf};
 
 // The largest number that digits may make.
 const COUNT_LIMIT: u16 = 255;
+
+// How many bytes of a run are tested one by one before chunks are.
+const SINGLES: usize = 8;
+
+// How many bytes a chunk has: so many that the test of one is compiled to a short loop over vectors.
+const CHUNK: usize = 96;
 
 // Classes of bytes.
 pub enum Class {
@@ -31,7 +38,6 @@ pub enum Class {
     KeyBytes,
     MeterBytes,
     Alphabetic,
-    Ascii,
 }
 
 // A part of a text, by its offsets.
@@ -92,7 +98,6 @@ fn in_class(class: Class, b: u8) -> bool
         }
         Class::MeterBytes => is_digit(b) | ((b == b'/') | (b == b'c') | (b == b'.') | (b == b'+')),
         Class::Alphabetic => is_alphabetic(b),
-        Class::Ascii => !(128 <= b),
     }
 }
 
@@ -118,6 +123,69 @@ pub fn run_end(text: &[u8], at: usize, class: Class) -> usize
     at + run(&text[at..], class)
 }
 
+// The mark, or 1 where the byte is another than `k`.
+fn marked(mark: u8, b: u8, k: u8) -> u8
+    ensures { λ r. ⌜ r ≡ cond (eqb b k) mark 1 ⌝ }
+{
+    if b == k {
+        return mark;
+    }
+    1
+}
+
+// Whether every byte is `k`.
+fn is_all(part: &[u8], k: u8) -> bool
+    ensures { λ r. ⌜ r ≡ every (λ b. eqb b k) (now (part .entry)) ⌝ }
+{
+    let mut mark: u8 = 0;
+    let mut i = 0;
+    while i < part.len() {
+        mark = marked(mark, part[i], k);
+        i += 1;
+    }
+    mark == 0
+}
+
+// The end of the whole chunks from `at` on in which every byte is `k`.
+fn chunks_end(rest: &[u8], at: usize, k: u8) -> usize
+    requires { ⌜ at ≤ length (now rest) ⌝ }
+    ensures { λ r. ⌜ SameEnd (λ b. eqb b k) (now (rest .entry)) at r ⌝ }
+{
+    let mut i = at;
+    while i + CHUNK <= rest.len() {
+        if !is_all(&rest[i..i + CHUNK], k) {
+            return i;
+        }
+        i += CHUNK;
+    }
+    i
+}
+
+// Where the search for the end of a run of `k` goes on: at `at`, or behind the chunks from there on.
+fn skipped(rest: &[u8], at: usize, k: u8) -> usize
+    requires { ⌜ at ≤ length (now rest) ⌝ }
+    ensures { λ r. ⌜ SameEnd (λ b. eqb b k) (now (rest .entry)) at r ⌝ }
+{
+    if at == SINGLES {
+        return chunks_end(rest, at, k);
+    }
+    at
+}
+
+// How many bytes of `rest`, from its start, are `k`: a few one by one, then whole chunks.
+pub fn repeated(rest: &[u8], k: u8) -> usize
+    ensures { λ r. ⌜ r ≡ runLength (λ b. eqb b k) (now (rest .entry)) ⌝ }
+{
+    let mut i = 0;
+    while i < rest.len() {
+        if rest[i] != k {
+            return i;
+        }
+        i = skipped(rest, i + 1, k);
+    }
+    i
+}
+
 // Whether the text is blank throughout.
 pub fn is_blank_text(text: &[u8]) -> bool
     ensures { λ r. ⌜ r ≡ every isBlank (now (text .entry)) ⌝ }
@@ -125,11 +193,27 @@ pub fn is_blank_text(text: &[u8]) -> bool
     run(text, Class::Blanks) == text.len()
 }
 
+// The larger of two bytes.
+fn larger(a: u8, b: u8) -> u8
+    ensures { λ r. ⌜ r ≡ cond (leb a b) b a ⌝ }
+{
+    if a <= b {
+        return b;
+    }
+    a
+}
+
 // Whether every byte is below 128.
 pub fn is_ascii(text: &[u8]) -> bool
     ensures { λ r. ⌜ r ≡ not (has (leb 128) (now (text .entry))) ⌝ }
 {
-    run(text, Class::Ascii) == text.len()
+    let mut most: u8 = 0;
+    let mut i = 0;
+    while i < text.len() {
+        most = larger(most, text[i]);
+        i += 1;
+    }
+    most < 128
 }
 
 // ---- texts

@@ -5,3 +5,4 @@ pub mod FieldByField
 pub mod Agreement
 pub mod Count
 pub mod Demand3
+pub mod Frame

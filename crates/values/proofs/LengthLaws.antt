@@ -6,7 +6,7 @@ use mathlib.Core.Bool.{Bool, true, false}
 use mathlib.Core.List.{List, [], _∷_}
 use lib.ListN.{length}
 use lib.Dec.{eqb, ltb}
-use borrow.Author.Tests.{ltb-true}
+use borrow.Author.Tests.{ltb-true, ltb-false}
 use Rattle.rules.specs.Limits.{dotLimit}
 use Rattle.rules.specs.Text.{bytes, if_then_else_, indexIn}
 use Rattle.rules.specs.Values.{Length, durationOf, capped}
@@ -29,6 +29,13 @@ capped-within n = at (ltb n dotLimit) refl
     at : (t : Bool) → ltb n dotLimit ≡ t → (if t then n else dotLimit) ≤ dotLimit
     at true e = omega (arith, ltb-true n dotLimit e)
     at false e = omega arith
+
+pub capped-below : (n : ℕ) → capped n ≤ n
+capped-below n = at (ltb n dotLimit) refl
+  where
+    at : (t : Bool) → ltb n dotLimit ≡ t → (if t then n else dotLimit) ≤ n
+    at true e = omega arith
+    at false e = ltb-false n dotLimit e
 
 pub code-length : (l : Length) → l .dots ≤ dotLimit → lengthOf (codeOf l) ≡ l
 code-length l h =

@@ -95,6 +95,10 @@ valueAt text s c = let q = s .pattern in let e = elementAt text (c .at) (q .to) 
 abbrev pub lengthIn : Value → Length
 lengthIn v = record { duration = v .duration; dots = v .dots }
 
+-- a length, and the cursor as it was
+abbrev pub staying : Cursor → Length → Value
+staying c l = record { duration = l .duration; dots = l .dots; next = c }
+
 -- the text has the token, and the value at the cursor
 pub record Ready (text : List ℕ) (q : Pattern) (c : Cursor) : Type 0 where
   pub within : q .to ≤ length text

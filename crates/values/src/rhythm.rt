@@ -1,12 +1,11 @@
 // What tokens say: a letter's step, a run's octave or accidental, a barline's right and left, a tuplet's normal count, and the lengths
 // of a digit token, its pattern.
 ghost use mathlib.Core.Path.{_≡_};
-ghost use Prim.Native.Nat.{_≤_, _<_};
+ghost use Prim.Native.Nat.{_+_, _*_, _≤_, _<_};
 ghost use lib.ListN.{length};
 ghost use Rattle.rules.specs.Values.{stepOf, durationOf, raisedOctave, loweredOctave, sharpened, flattened, dotsAt, capped, normalOf};
 ghost use Rattle.rules.specs.Tokens.{slashes, colons};
-ghost use Rattle.values.specs.Rhythm.{octaveIn, barlineIn, keptLimit, elementAt, keeping, valueOf, quarterPattern, withElement, patternAt, firstOf, settled, valueAt, Ready};
-use text::Class;
+ghost use Rattle.values.specs.Rhythm.{octaveIn, barlineIn, keptLimit, elementAt, keeping, valueOf, quarterPattern, withElement, patternAt, firstOf, settled, valueAt, lengthIn, staying, Ready};
 
 // The octave that a run of `'` or `,` sets, where it is 0 to 9.
 pub enum Octave {
@@ -169,7 +168,14 @@ fn capped(dots: usize) -> u8
 fn dots_at(text: &[u8]) -> usize
     ensures { λ r. ⌜ r ≡ dotsAt (now (text .entry)) ⌝ }
 {
-    text::run(text, Class::Same(b'.'))
+    text::repeated(text, b'.')
+}
+
+// The code of a digit with so many dots.
+fn code_of(digit: u8, dots: usize) -> u8
+    ensures { λ r. ⌜ r ≡ durationOf digit * 4 + capped dots ⌝ }
+{
+    duration_of(digit) * 4 + capped(dots)
 }
 
 // The element at an offset before `to`: a digit with the dots after it.
@@ -180,9 +186,19 @@ fn element_at(text: &[u8], at: usize, to: usize) -> Element
     let first = at + 1;
     let dots = dots_at(&text[first..to]);
     Element {
-        code: duration_of(text[at]) * 4 + capped(dots),
+        code: code_of(text[at], dots),
         end: first + dots,
     }
+}
+
+// The code of the element at an offset before `to`, by the dots that count: no more are looked at.
+fn code_at(text: &[u8], at: usize, to: usize) -> u8
+    requires { ⌜ (at < to) × (to ≤ length (now text)) ⌝ }
+    ensures { λ r. ⌜ r ≡ elementAt (now (text .entry)) at to .code ⌝ }
+{
+    let first = at + 1;
+    let most = first + capped(to - first) as usize;
+    code_of(text[at], dots_at(&text[first..most]))
 }
 
 // The length of a code, with the cursor after it.
@@ -277,5 +293,17 @@ impl Pattern {
             at: element.end,
         });
         value_of(element.code, next)
+    }
+
+    // The value at the cursor, which stays.
+    pub fn value_here(self, text: &[u8], kept: &[u8; KEPT], cursor: Cursor) -> Value
+        requires { ⌜ Ready (now text) self cursor ⌝ }
+        ensures { λ r. ⌜ r ≡ staying cursor (lengthIn (valueAt (now (text .entry)) (keeping self (now (kept .entry))) cursor)) ⌝ }
+    {
+        let index = cursor.index;
+        if index < self.count {
+            return value_of(kept[index], cursor);
+        }
+        value_of(code_at(text, cursor.at, self.to), cursor)
     }
 }

@@ -126,8 +126,12 @@ fn at_limits() -> u64 {
         limits::long_texts(),
         limits::few_sizes,
     ) + each(
-        "1,022 to 2,000 diagnostics",
+        "31 to 2,000 diagnostics",
         limits::many_diagnostics(),
+        limits::few_sizes,
+    ) + each(
+        "patterns of 254 to 513 elements",
+        limits::long_patterns(),
         limits::few_sizes,
     ) + each(
         "about 100,000 notes",

@@ -84,7 +84,7 @@ fn music(size: usize) -> Vec<u8> {
 type Made = fn(usize) -> Vec<u8>;
 
 /// Lines that ask much of a reader.
-const ADVERSARIAL: [(&str, Made); 15] = [
+const ADVERSARIAL: [(&str, Made); 16] = [
     ("letters alone", |size| framed("", "C", "", size)),
     ("one pattern, as many notes", |size| {
         pattern(size, size / 2 - 1, 0)
@@ -98,7 +98,18 @@ const ADVERSARIAL: [(&str, Made); 15] = [
     }),
     (
         "257 elements, thousands of dots at the last, as many notes",
-        |size| framed(&("8".repeat(257) + &".".repeat(size / 2)), "C", "", size),
+        |size| framed(&dotted_last(size), "C", "", size),
+    ),
+    (
+        "257 elements, thousands of dots at the last, as many graces on it",
+        |size| {
+            framed(
+                &(dotted_last(size) + &"C".repeat(256) + "qq"),
+                "C",
+                "",
+                size,
+            )
+        },
     ),
     ("`f/` after a figure", |size| framed("!CD!", "f/", "", size)),
     ("`i/` after a bar", |size| framed("CD/", "i/", "", size)),
@@ -116,6 +127,11 @@ const ADVERSARIAL: [(&str, Made); 15] = [
 fn pattern(size: usize, elements: usize, dots: usize) -> Vec<u8> {
     let element = "8".to_string() + &".".repeat(dots);
     framed(&element.repeat(elements), "C", "", size)
+}
+
+/// A pattern of 257 elements, the last with dots that fill half the size.
+fn dotted_last(size: usize) -> String {
+    "8".repeat(257) + &".".repeat(size / 2)
 }
 
 /// What each text needs exactly, and what a caller lends who doesn't know.

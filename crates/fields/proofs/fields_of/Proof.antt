@@ -18,7 +18,7 @@ returns-2 c =
     let h = c .before .before .before .before in
     let text = h .args .text .now in
     let size = length (h .args .scratch .now) in
-    rw (c .bare .ensures) (subst (λ (l : List ℤ). Formed text size (bareFields (length text)) l) (sym (h .pre .2)) (bare-form text size (sym (c .before .before .in-field-form .ensures) ∙ c .before .if1 .left)))
+    rw (c .bare .ensures) (subst (λ (l : List ℤ). Formed text size (bareFields (length text)) l) (sym (h .pre .1)) (bare-form text size (sym (c .before .before .in-field-form .ensures) ∙ c .before .if1 .left)))
 
 pub fields-of-spec : {M : Type 1} → statement M
 fields-of-spec =

@@ -27,20 +27,20 @@ loop-holds : tie.Need-loop-holds Inv-loop μ-loop
 loop-holds c =
     let h = c .before .before in
     let size = length (h .args .scratch .now) in
-    rw (c .no-fields .ensures) (subst (λ (l : List ℤ). Holds (h .args .text .now) size 0 1 noFields l) (sym (h .pre .2)) (start-holds (h .args .text .now) size))
+    rw (c .no-fields .ensures) (subst (λ (l : List ℤ). Holds (h .args .text .now) size 0 1 noFields l) (sym (h .pre .1)) (start-holds (h .args .text .now) size))
 
 read-line-requires : tie.Need-read-line-requires Inv-loop μ-loop
 read-line-requires c κs =
     let h = c .before .before .before in
     let f = h .before .before .before .pre in
-    record { order = omega (arith, c .before .line-end .ensures); within = within (c .before); short = f .0; numbered = omega (arith, h .loop .inv .numbered, f .0, c .before .before .loop-test .taken); room = rw (h .loop .inv .lent) (f .1) }
+    record { order = omega (arith, c .before .line-end .ensures); within = within (c .before); short = f .0; numbered = omega (arith, h .loop .inv .numbered, f .0, c .before .before .loop-test .taken) }
 
 loop-again : tie.Need-loop-again Inv-loop μ-loop
 loop-again c =
     let h = c .before .before .before .before .before in
     let e = c .before .before .before .line-end .ensures in
     let q = c .before .read-line .ensures in
-    rw (q .0, q .1, e) (line-holds (text h) (h .loop .inv) (c .before .before .before .before .loop-test .taken) (h .before .before .before .pre .1) (ap length (sym (rw e at (q .1))) ∙ c .before .read-line .kept .1 .1 .1 .1 .1 .0 ∙ h .loop .inv .lent))
+    rw (q .0, q .1, e) (line-holds (text h) (h .loop .inv) (c .before .before .before .before .loop-test .taken) (ap length (sym (rw e at (q .1))) ∙ c .before .read-line .kept .1 .1 .1 .1 .1 .0 ∙ h .loop .inv .lent))
 
 pub read-fields-spec : {M : Type 1} → statement M
 read-fields-spec =

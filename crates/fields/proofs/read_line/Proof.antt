@@ -52,7 +52,7 @@ read-field-requires : tie.Need-read-field-requires
 read-field-requires c κs =
     let t = c .before .before .before .before .before in
     let f = t .before .before .pre in
-    (record { order = t .trim .ensures .order; within = left-within t; short = f .short; numbered = f .numbered; room = f .room }, sym (c .before .before .is-field .ensures) ∙ c .before .if2 .taken)
+    (record { order = t .trim .ensures .order; within = left-within t; short = f .short; numbered = f .numbered }, sym (c .before .before .is-field .ensures) ∙ c .before .if2 .taken)
 
 returns-2 : tie.Need-returns-2
 returns-2 c =

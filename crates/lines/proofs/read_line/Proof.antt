@@ -10,6 +10,6 @@ read-line-spec =
     (λ c. search needs)
     (λ c κs. search needs)
     (λ c κs. search needs)
-    (λ c κs. let k = c .before .before .before .before .clear in (search needs, rw (k .kept .0) (k .ensures)))
+    (λ c κs. let k = c .before .before .before .before .clear in rw (k .kept .0) (k .ensures))
     (λ c κs. search needs)
     (λ c. search needs))

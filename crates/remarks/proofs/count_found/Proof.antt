@@ -6,11 +6,10 @@ pub count-found-spec : {M : Type 1} → statement M
 count-found-spec =
     tie.close
     (tie.spec
-    (λ c κs. search needs)
     (λ c. search needs)
-    (λ c. rw (c .before .before .before .if1 .taken, ← c .before .before .count .ensures, c .enum-told .given .1))
+    (λ c. rw (c .before .before .if1 .taken, c .enum-told .given .1))
     (λ c. search needs)
     (λ c κs. search needs)
-    (λ c. rw (c .before .before .before .before .if1 .taken, ← c .before .before .before .count .ensures, c .before .enum-told2 .given .1) (c .after-first .ensures))
+    (λ c. rw (c .before .before .before .if1 .taken, c .before .enum-told2 .given .1) (c .after-first .ensures))
     (λ c κs. search needs)
     (λ c. rw (c .before .if1 .left) (c .after-first2 .ensures)))

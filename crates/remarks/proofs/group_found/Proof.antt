@@ -9,8 +9,8 @@ group-found-spec =
     (tie.spec
     (λ c κs. search needs)
     (λ c κs. search needs)
-    (λ c. rw (c .before .before .before .before .before .if1 .taken, ← c .before .before .before .open-length .ensures, lt-ltb _ _ (c .before .if2 .taken), c .at-data-parentheses .ensures))
+    (λ c. rw (c .before .before .before .before .if1 .taken, ← c .before .before .before .open-length .ensures, lt-ltb _ _ (c .before .if2 .taken), c .at-data-parentheses .ensures))
     (λ c κs. search needs)
-    (λ c. rw (c .before .before .before .before .before .if1 .taken, ← c .before .before .before .open-length .ensures, le-ltb _ _ (c .before .if2 .left)) (c .closing-found .ensures))
+    (λ c. rw (c .before .before .before .before .if1 .taken, ← c .before .before .before .open-length .ensures, le-ltb _ _ (c .before .if2 .left)) (c .closing-found .ensures))
     (λ c κs. search needs)
     (λ c. rw (c .before .if1 .left) (c .whole .ensures)))

@@ -70,10 +70,11 @@ pub fn long_texts() -> Vec<Vec<u8>> {
     texts
 }
 
-/// Texts with about 1,024 diagnostics and more.
+/// Texts with about 64 diagnostics, for which the scratch tried first has room, about 1,024, and more.
 pub fn many_diagnostics() -> Vec<Vec<u8>> {
     let mut texts = Vec::new();
-    for count in [1_022, 1_023, 1_024, 1_025, 1_026, 1_500, 2_000] {
+    let near = (31..=33).chain(62..=67).chain([127, 128, 129]);
+    for count in near.chain(1_022..=1_026).chain([1_500, 2_000]) {
         for (head, part, tail) in [
             ("C", "?", ""),
             ("C", ")", ""),
@@ -99,6 +100,33 @@ pub fn many_diagnostics() -> Vec<Vec<u8>> {
         texts.push(lines.into_bytes());
     }
     texts
+}
+
+/// Patterns of about 256 elements, which are kept, and more, with few and many dots behind some of them, taken by notes, rests and graces.
+pub fn long_patterns() -> Vec<Vec<u8>> {
+    let takers = [
+        "C".repeat(600),
+        "C-".repeat(400),
+        "CqDqEC".repeat(150),
+        "C".repeat(254) + "qqCDr" + &"CgDqE^F".repeat(90),
+        "C".repeat(256) + "qqCDE/FGr" + &"qC-/C".repeat(130),
+        "C".repeat(257) + &"qCqDE".repeat(130),
+        "C".repeat(258) + "/iqCC",
+    ];
+    let mut texts = Vec::new();
+    for elements in (254..=259).chain([300, 512, 513]) {
+        for dots in [
+            0, 1, 2, 3, 4, 5, 7, 8, 9, 95, 96, 97, 103, 104, 105, 200, 500,
+        ] {
+            let last = "8".repeat(elements - 1) + "6" + &".".repeat(dots);
+            let two = "8".repeat(elements - 2) + "4" + &".".repeat(dots) + "6.";
+            let middle = "8".repeat(elements - 5) + "2" + &".".repeat(dots) + "8645";
+            for pattern in [last, two, middle] {
+                texts.extend(takers.iter().map(|taker| pattern.clone() + taker));
+            }
+        }
+    }
+    texts.into_iter().map(String::into_bytes).collect()
 }
 
 /// Texts with 100,000 notes, one less, one more, and many more: by `i`, by `f`, by doubling figures.

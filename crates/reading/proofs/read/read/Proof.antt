@@ -43,7 +43,7 @@ fields-of-requires : tie.Need-fields-of-requires
 fields-of-requires c κs =
     let x = c .before .before in
     let a = x .before .before .before .before .before .before .before .before .args in
-    (text-within (a .text .now) (a .cells) (entered (c .before)), x .before .before .before .before .before .before .before .before .pre .0, x .before .before .before .before .before .before .before .before .pre .1)
+    (text-within (a .text .now) (a .cells) (entered (c .before)), x .before .before .before .before .before .before .before .before .pre)
 
 returns-2 : tie.Need-returns-2
 returns-2 c =
@@ -66,7 +66,6 @@ read-fielded-requires c κs =
       diagnosed = diagnosed-same (f .kept .1 .0) (f .ensures .1);
       notes = still-cleared (length (a .notes .now)) (x .before .before .before .before .before .clear .ensures);
       bars = still-cleared (length (a .bars .now)) (x .before .before .clear2 .ensures);
-      room = omega (arith, f .kept .1 .0, x .before .before .before .before .before .before .before .before .pre .0);
     }
 
 returns-3 : tie.Need-returns-3

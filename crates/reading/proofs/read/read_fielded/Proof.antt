@@ -8,11 +8,11 @@ use Rattle.rules.specs.Fields.{fieldsOf}
 use Rattle.rules.specs.Reading.{Lent}
 use Rattle.rules.specs.Words.{zeros}
 use Rattle.checks.specs.declared.Room.{Room}
-use Rattle.checks.specs.Checks.{barCheck}
+use Rattle.checks.specs.Checks.{barCheck, endCheck}
 use Rattle.checks.proofs.CheckLaws.{bars-ready}
 use Rattle.reading.specs.Data.{DataRead}
 use Rattle.reading.specs.Answer.{lentWords, roomIn}
-use Rattle.reading.proofs.ReadingLaws.{refused-by, answer-by, stopped-within, few-diagnosed, part-within, attributes-begin, token-refused, bars-refused, none-refused, answer-accepted}
+use Rattle.reading.proofs.ReadingLaws.{refused-by, answer-by, few-diagnosed, part-within, attributes-begin, token-refused, end-refused, end-passes, answer-accepted}
 use Rattle.reading.proofs.read.read_fielded.Statement.{statement}
 use Rattle.reading.proofs.read.read_fielded.Tie as tie
 
@@ -33,8 +33,17 @@ read-by x =
     (x .read-data .result) (x .read-data .last .1 .1 .1 .1 .0) (x .read-data .last .1 .1 .1 .1 .1 .0) (x .read-data .last .1 .1 .1 .1 .1 .1 .1 .0)) (x .before .before .before .before .before .room-in .ensures) (x .read-data .ensures)
 
 -- the check at the end, with the lent records
-bar-check : (c : tie.After-check-bar) → let a = c .before .before .before .before .before .before .before .before .before .before .before .before .before .before .before .before .before .before .before .args in c .check-bar .result ≡ barCheck (c .before .before .before .before .before .before .before .before .read-data .result .st .counts) (roomIn (length (a .notes .now)) (length (a .bars .now)) (length (a .figure .now)) .bars)
-bar-check c = c .check-bar .ensures ∙ ap (λ (room : Room). barCheck (c .before .before .before .before .before .before .before .before .read-data .result .st .counts) (room .bars)) (c .before .before .before .before .before .before .before .before .before .before .before .before .before .room-in .ensures)
+end-check : (c : tie.After-check-end) → let a = c .before .before .before .before .before .before .before .before .before .before .before .before .before .before .before .before .before .before .before .args in c .check-end .result ≡ endCheck (c .before .before .before .before .before .before .before .before .read-data .result .st .counts) (roomIn (length (a .notes .now)) (length (a .bars .now)) (length (a .figure .now)) .bars) (length (take (a .fields .end - a .fields .start) (drop (a .fields .start) (a .text .now))))
+end-check c =
+    let a = c .before .before .before .before .before .before .before .before .before .before .before .before .before .before .before .before .before .before .before .args in
+    c .check-end .ensures ∙ ap (λ (room : Room). endCheck (c .before .before .before .before .before .before .before .before .read-data .result .st .counts) (room .bars) (length (take (a .fields .end - a .fields .start) (drop (a .fields .start) (a .text .now))))) (c .before .before .before .before .before .before .before .before .before .before .before .before .before .room-in .ensures)
+
+-- where it passes, the bar has room and a record is stored
+end-fits : (c : tie.Else2) → let x = c .before .before .before .before .before .before .before .before .before .before in let a = x .before .before .before .before .before .before .before .before .before .before .before .args in (barCheck (x .read-data .result .st .counts) (roomIn (length (a .notes .now)) (length (a .bars .now)) (length (a .figure .now)) .bars) ≡ 0) × (x .read-data .result .st .counts .notes ≡ 0 → ⊥)
+end-fits c =
+    let x = c .before .before .before .before .before .before .before .before .before .before in
+    let a = x .before .before .before .before .before .before .before .before .before .before .before .args in
+    end-passes (x .read-data .result .st .counts) (roomIn (length (a .notes .now)) (length (a .bars .now)) (length (a .figure .now)) .bars) (length (take (a .fields .end - a .fields .start) (drop (a .fields .start) (a .text .now)))) (end-check (c .before .before)) (c .if2 .left)
 
 read-data-requires : tie.Need-read-data-requires
 read-data-requires c κs =
@@ -50,7 +59,6 @@ read-data-requires c κs =
       notesRoom = rw e (omega arith);
       barsRoom = rw e (omega arith);
       figureRoom = rw e (omega arith);
-      scratch = p .room;
       attributes = attributes-begin (fieldsOf (a .text .now) .attributes) (p .taken .attributes);
     }
 
@@ -66,47 +74,38 @@ returns c =
 
 returns-2 : tie.Need-returns-2
 returns-2 c =
-    let x = c .before .before .before .before .before .before .before .before .before .before .before .before .before .before .before .before .before .before in
+    let x = c .before .before .before .before .before .before .before .before .before .before .before .before .before .before .before .before .before .before .before in
     let a = x .before .before .before .before .before .before .before .before .before .before .before .args in
     let p = x .before .before .before .before .before .before .before .before .before .before .before .pre in
     let g = c .before .before .before .before .refuse2 .ensures in
     let k = x .read-data .kept in λ cells e.
     refused-by (a .text .now) (lent x cells) (length (a .scratch .now)) (g .0) (g .1 ∙ ap zeros (k .1 .1 .1 .1 .0)) (g .2 ∙ ap zeros (k .1 .1 .1 .1 .1 .0)) (g .3 ∙ ap zeros (k .1 .1 .1 .1 .1 .1 .0)) (g .4 ∙ ap zeros (k .1 .1 .1 .1 .1 .1 .1 .0))
-    (bars-refused (a .text .now) (length (a .notes .now)) (length (a .bars .now)) (length (a .figure .now)) (length (a .scratch .now)) (a .fields) (p .taken) (p .present) cells e (read-by x) (c .before .before .before .before .before .before .before .before .before .before .before .before .if1 .left) (λ z. c .before .before .before .before .before .before .before .before .before .if2 .taken (bar-check (c .before .before .before .before .before .before .before .before .before .before) ∙ z)))
-
-returns-3 : tie.Need-returns-3
-returns-3 c =
-    let x = c .before .before .before .before .before .before .before .before .before .before .before .before .before .before .before .before .before .before .before .before in
-    let a = x .before .before .before .before .before .before .before .before .before .before .before .args in
-    let p = x .before .before .before .before .before .before .before .before .before .before .before .pre in
-    let g = c .before .before .before .before .refuse3 .ensures in
-    let k = x .read-data .kept in λ cells e.
-    refused-by (a .text .now) (lent x cells) (length (a .scratch .now)) (g .0) (g .1 ∙ ap zeros (k .1 .1 .1 .1 .0)) (g .2 ∙ ap zeros (k .1 .1 .1 .1 .1 .0)) (g .3 ∙ ap zeros (k .1 .1 .1 .1 .1 .1 .0)) (g .4 ∙ ap zeros (k .1 .1 .1 .1 .1 .1 .1 .0))
-    (none-refused (a .text .now) (length (a .notes .now)) (length (a .bars .now)) (length (a .figure .now)) (length (a .scratch .now)) (a .fields) (p .taken) (p .present) cells e (read-by x) (c .before .before .before .before .before .before .before .before .before .before .before .before .before .before .if1 .left) (sym (bar-check (c .before .before .before .before .before .before .before .before .before .before .before .before)) ∙ c .before .before .before .before .before .before .before .before .before .before .before .if2 .left) (c .before .before .before .before .before .before .before .before .before .if3 .taken))
+    (end-refused (a .text .now) (length (a .notes .now)) (length (a .bars .now)) (length (a .figure .now)) (length (a .scratch .now)) (a .fields) (p .taken) (p .present) cells e (read-by x) (c .before .before .before .before .before .before .before .before .before .before .before .before .before .if1 .left) (end-check (c .before .before .before .before .before .before .before .before .before .before .before)) (c .before .before .before .before .before .before .before .before .before .if2 .taken))
 
 finish-requires : tie.Need-finish-requires
 finish-requires c κs =
-    let x = c .before .before .before .before .before .before .before .before .before .before .before .before .before in
+    let x = c .before .before .before .before .before .before .before .before .before .before .before .before in
     let a = x .before .before .before .before .before .before .before .before .before .before .before .args in
     let p = x .before .before .before .before .before .before .before .before .before .before .before .pre in
     let d = read-by x in
-    let h = c .before .before .before .before .before .before .before .if1 .left in
+    let h = c .before .before .before .before .before .before .if1 .left in
     let counts = x .read-data .result .st .counts in (
       (λ filled. let lends : roomIn (length (a .notes .now)) (length (a .bars .now)) (length (a .figure .now)) .bars * barSize ≤ length (a .bars .now) = omega arith in
-          omega (arith, bars-ready (length (a .bars .now)) counts (roomIn (length (a .notes .now)) (length (a .bars .now)) (length (a .figure .now)) .bars) lends filled (sym (bar-check (c .before .before .before .before .before)) ∙ c .before .before .before .before .if2 .left), x .read-data .kept .1 .1 .1 .1 .1 .0)),
+          omega (arith, bars-ready (length (a .bars .now)) counts (roomIn (length (a .notes .now)) (length (a .bars .now)) (length (a .figure .now)) .bars) lends filled (end-fits (c .before .before) .0), x .read-data .kept .1 .1 .1 .1 .1 .0)),
       d .finished h .stored .capped,
       omega (arith, d .finished h .few, inside (x .before .before .before .before .before .before .before .before .before .before .before)),
-      omega (arith, few-diagnosed (p .room) (p .diagnosed) d h),
+      omega (arith, few-diagnosed (p .diagnosed) d h),
     )
 
-returns-4 : tie.Need-returns-4
-returns-4 c =
-    let x = c .before .before .before .before .before .before .before .before .before .before .before .before .before .before .before .before in
+returns-3 : tie.Need-returns-3
+returns-3 c =
+    let x = c .before .before .before .before .before .before .before .before .before .before .before .before .before .before .before in
     let a = x .before .before .before .before .before .before .before .before .before .before .before .args in
     let p = x .before .before .before .before .before .before .before .before .before .before .before .pre in
-    let g = c .before .before .finish .ensures in λ cells e.
+    let g = c .before .before .finish .ensures in
+    let fits = end-fits (c .before .before .before .before .before) in λ cells e.
     answer-by (a .text .now) (lent x cells) (g .0) (g .1) (g .2 ∙ ap zeros (x .read-data .kept .1 .1 .1 .1 .1 .1 .0))
-    (answer-accepted (a .text .now) (length (a .notes .now)) (length (a .bars .now)) (length (a .figure .now)) (length (a .scratch .now)) (a .fields) (p .taken) (p .present) cells e (read-by x) (c .before .before .before .before .before .before .before .before .before .before .if1 .left) (sym (bar-check (c .before .before .before .before .before .before .before .before)) ∙ c .before .before .before .before .before .before .before .if2 .left) (c .before .before .before .before .before .if3 .left) (p .room) (p .diagnosed))
+    (answer-accepted (a .text .now) (length (a .notes .now)) (length (a .bars .now)) (length (a .figure .now)) (length (a .scratch .now)) (a .fields) (p .taken) (p .present) cells e (read-by x) (c .before .before .before .before .before .before .before .before .before .if1 .left) (fits .0) (fits .1) (p .diagnosed))
 
 pub read-fielded-spec : {M : Type 1} → statement M
 read-fielded-spec =
@@ -117,29 +116,22 @@ read-fielded-spec =
     (λ c. search needs)
     (λ c κs. search needs)
     read-data-requires
-    (λ c κs. omega (arith, stopped-within (read-by (c .before .before .before .before .before .before .before .before .before .before)) (c .before .before .before .before .if1 .taken), inside (c .before .before .before .before .before .before .before .before .before .before .before .before .before .before .before .before .before .before .before .before .before)))
+    (λ c κs. search needs)
     (λ c. search needs)
     (λ c. search needs)
     (λ c. search needs)
     (λ c. search needs)
     returns
+    (λ c κs. omega (arith, inside (c .before .before .before .before .before .before .before .before .before .before .before .before .before .before .before .before .before .before)))
     (λ c κs. search needs)
-    (λ c. record { fits = omega (arith, inside (c .before .before .before .before .before .before .before .before .before .before .before .before .before .before .before .before .before .before .before .before .before .before .before .before)) })
-    (λ c κs. omega (arith, inside (c .before .before .before .before .before .before .before .before .before .before .before .before .before .before .before .before .before .before .before .before .before .before .before .before)))
     (λ c. search needs)
     (λ c. search needs)
     (λ c. search needs)
     (λ c. search needs)
     returns-2
-    (λ c κs. search needs)
-    (λ c. c .before .before .before .before .refuse3 .kept .0 ∙ c .before .before .before .before .before .before .before .before .before .before .before .before .before .before .before .before .before .before .before .before .read-data .kept .1 .1 .1 .1 .0)
-    (λ c. search needs)
-    (λ c. search needs)
-    (λ c. search needs)
-    returns-3
     finish-requires
     (λ c. search needs)
     (λ c. search needs)
     (λ c. search needs)
     (λ c. search needs)
-    returns-4)
+    returns-3)

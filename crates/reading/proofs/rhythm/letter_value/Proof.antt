@@ -11,5 +11,6 @@ letter-value-spec =
     (λ c. rw (c .before .if1 .taken) (c .untaken .ensures))
     (λ c κs. search needs)
     (λ c κs. search needs)
-    (λ c. rw (c .before .before .before .if1 .left, sym (c .before .is-grace .ensures) ∙ c .if2 .taken, c .before .before .value-at .ensures))
-    (λ c. rw (c .before .before .before .if1 .left, sym (c .before .is-grace .ensures) ∙ c .if2 .left) (c .before .before .value-at .ensures)))
+    (λ c. rw (c .before .before .before .if1 .left, sym (c .before .before .is-grace .ensures) ∙ c .before .if2 .taken) (c .value-here .ensures))
+    (λ c κs. search needs)
+    (λ c. rw (c .before .before .before .if1 .left, sym (c .before .before .is-grace .ensures) ∙ c .before .if2 .left) (c .value-at .ensures)))

@@ -16,22 +16,12 @@ repeated-below k h g = by (ltb (k .first) (k .notes)) (eqb (k .bars) 0)
     by false true = omega arith
     by false false = omega arith
 
-repeat-bar-requires : tie.Need-repeat-bar-requires
-repeat-bar-requires c κs =
-    let s = c .before .before .before in
-    let w = s .pre .1 .within in
-    let e = c .before .before .repeated-count .ensures in
-    (rw e (repeated-below (s .args .st .counts) (w .last) (w .first)), rw e (s .pre .1 .place .0), s .pre .0, omega (arith, w .bars))
-
 pub bar-repeat-spec : {M : Type 1} → statement M
 bar-repeat-spec =
     tie.close
     (tie.spec
-    (λ c κs. search needs)
     (λ c. search needs)
     (λ c. search needs)
-    repeat-bar-requires
-    (λ c κs. search needs)
-    (λ c κs. search needs)
+    (λ c κs. let s = c .before .before in let w = s .pre .2 .within in (rw (s .pre .0) (repeated-below (s .args .counts) (w .last) (w .first)), s .pre .2 .place .0, s .pre .1, omega (arith, w .bars)))
     (λ c. search needs)
-    (λ c. (rw (c .with-counts .ensures, c .before .counted .ensures, c .before .before .before .before .before .before .repeated-count .ensures), rw (c .before .before .before .repeat-bar .ensures, c .before .before .before .before .before .before .repeated-count .ensures))))
+    (λ c. rw (c .before .repeat-bar .ensures, c .before .before .before .before .pre .0)))

@@ -9,7 +9,5 @@ figure-repeat-spec =
     (λ c. search needs)
     (λ c. search needs)
     (λ c κs. search needs)
-    (λ c κs. search needs)
-    (λ c κs. search needs)
     (λ c. search needs)
-    (λ c. (rw (c .with-counts .ensures, c .before .counted .ensures), c .before .before .before .repeat-figure .ensures)))
+    (λ c. c .before .repeat-figure .ensures))

@@ -1,6 +1,6 @@
+use borrow.Author.Needs.{needs}
 use borrow.Author.Tests.{lt-ltb, le-ltb}
 use mathlib.Core.Path.{refl}
-use borrow.Author.Needs.{needs}
 use Rattle.records.proofs.diagnostic.store_diagnostic.Statement.{statement}
 use Rattle.records.proofs.diagnostic.store_diagnostic.Tie as tie
 
@@ -11,8 +11,5 @@ store-diagnostic-spec =
     (λ c κs. search needs)
     (λ c. search needs)
     (λ c. search needs)
-    (λ c κs. search needs)
-    (λ c. search needs)
-    (λ c. search needs)
-    (λ c. rw (lt-ltb _ _ (c .before .before .before .before .before .if1 .taken)) (refl, rw (c .before .write .ensures, c .before .before .before .before .words-of .ensures)))
+    (λ c. rw (lt-ltb _ _ (c .before .before .before .if1 .taken)) (refl, c .before .put .ensures))
     (λ c. rw (le-ltb _ _ (c .if1 .left)) (refl, refl)))

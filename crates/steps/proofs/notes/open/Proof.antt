@@ -16,7 +16,7 @@ use Rattle.steps.proofs.notes.open.Tie as tie
 store-note-requires : tie.Need-store-note-requires
 store-note-requires c κs =
     let s = c .before .before .before .before in
-    (s .pre .0, rw (ap (λ (h : rules.Heading). h .place) (c .before .before .before .opened-heading .ensures)) (s .pre .1), s .pre .2, rw (ap (λ (q : rules.Pitch). q .place) (c .before .before .pitch .ensures)) (s .pre .1))
+    (s .pre .0, rw (ap (λ (h : rules.Heading). h .place) (c .before .before .before .opened-heading .ensures)) (s .pre .1), s .pre .2, rw (ap (λ (q : rules.Pitch). q .place) (c .before .before .pitch .ensures)) (s .pre .1), s .pre .3)
 
 returns : tie.Need-returns
 returns c =

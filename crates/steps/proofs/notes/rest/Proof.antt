@@ -14,7 +14,7 @@ use Rattle.steps.proofs.notes.rest.Tie as tie
 store-rest-requires : tie.Need-store-rest-requires
 store-rest-requires c κs =
     let s = c .before .before .before in
-    (s .pre .0, rw (ap (λ (h : rules.Heading). h .place) (c .before .before .heading .ensures)) (s .pre .1), s .pre .2)
+    (s .pre .0, rw (ap (λ (h : rules.Heading). h .place) (c .before .before .heading .ensures)) (s .pre .1), s .pre .2, s .pre .3)
 
 returns : tie.Need-returns
 returns c =

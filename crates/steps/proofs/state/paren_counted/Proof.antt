@@ -1,4 +1,3 @@
-use mathlib.Core.Path.{sym}
 use borrow.Author.Needs.{needs}
 use Rattle.steps.proofs.state.paren_counted.Statement.{statement}
 use Rattle.steps.proofs.state.paren_counted.Tie as tie
@@ -7,10 +6,9 @@ pub paren-counted-spec : {M : Type 1} → statement M
 paren-counted-spec =
     tie.close
     (tie.spec
-    (λ c κs. search needs)
     (λ c. search needs)
     (λ c. search needs)
-    (λ c. rw (c .before .before .before .before .if1 .taken, sym (c .before .before .before .count .ensures), c .before .count2 .given .1))
+    (λ c. rw (c .before .before .before .if1 .taken, c .before .count .given .1))
     (λ c. search needs)
-    (λ c. rw (c .before .before .before .if1 .taken, sym (c .before .before .count .ensures), c .enum-told .given .1))
+    (λ c. rw (c .before .before .if1 .taken, c .enum-told .given .1))
     (λ c. search needs))

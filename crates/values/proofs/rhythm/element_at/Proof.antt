@@ -1,36 +1,25 @@
 use Prim.Native.Nat.{ℕ, _+_, _-_}
 use native.Mathlib.Omega.{arith}
-use lib.ListN.{take, drop, getD, length-take}
+use lib.ListN.{take, drop, length-take}
 use lib.Dec.{eqb}
 use borrow.Author.Needs.{needs}
 use Rattle.values.specs.Rhythm.{elementAt}
 use Rattle.text.proofs.RunLaws.{run-within}
-use Rattle.values.proofs.LengthLaws.{duration-within, capped-within}
 use Rattle.values.proofs.SliceLaws.{slice-part}
 use Rattle.values.proofs.rhythm.element_at.Statement.{statement}
 use Rattle.values.proofs.rhythm.element_at.Tie as tie
 
-mul-t13 : tie.Need-mul-t13
-mul-t13 c =
-    let a = c .before .before .before .before .before .args in
-    omega (arith, c .duration-of .ensures, duration-within (getD (a .text .now) (a .at) 0))
-
-add-t15 : tie.Need-add-t15
-add-t15 c =
-    let a = c .before .before .before .before .before .before .args in
-    omega (arith, c .before .duration-of .ensures, duration-within (getD (a .text .now) (a .at) 0), c .capped .ensures, capped-within (c .before .before .before .dots-at .result))
-
 add-t7 : tie.Need-add-t7
 add-t7 c =
-    let a = c .before .before .before .before .before .before .args in
+    let a = c .before .before .before .before .before .args in
     let rest = drop (a .at + 1) (a .text .now) in
-    omega (arith, c .before .before .before .dots-at .ensures, run-within (λ (b : ℕ). eqb b 46) (take (a .to - (a .at + 1)) rest), length-take (a .to - (a .at + 1)) rest)
+    omega (arith, c .before .before .dots-at .ensures, run-within (λ (b : ℕ). eqb b 46) (take (a .to - (a .at + 1)) rest), length-take (a .to - (a .at + 1)) rest)
 
 returns : tie.Need-returns
 unfolding elementAt
 returns c =
-    let a = c .before .before .before .before .before .before .args in
-    rw (slice-part (a .at + 1) (a .to) (a .text .now), c .capped .ensures, c .before .duration-of .ensures, c .before .before .before .dots-at .ensures)
+    let a = c .before .before .before .before .before .args in
+    rw (slice-part (a .at + 1) (a .to) (a .text .now), c .code-of .ensures, c .before .before .dots-at .ensures)
 
 pub element-at-spec : {M : Type 1} → statement M
 element-at-spec = tie.close (tie.spec
@@ -41,8 +30,5 @@ element-at-spec = tie.close (tie.spec
     (λ c κs. search needs)
     (λ c. search needs)
     (λ c κs. search needs)
-    mul-t13
-    (λ c κs. search needs)
-    add-t15
     add-t7
     returns)
