@@ -1,16 +1,16 @@
 -- The promise of `pae_read` from that of `read` over words. Assumes nothing.
-use Prim.Native.Nat.{ℕ, zero, suc, _+_, _-_, _*_, _/_, _≤_}
+use Prim.Native.Nat.{ℕ, zero, suc, _+_, _-_, _*_, _≤_}
 use native.Mathlib.Numerals.{unary-clauses}
 use native.Mathlib.Omega.{arith}
 use mathlib.Core.Path.{_≡_, refl, sym, ap, subst, _∙_}
-use mathlib.Core.Bool.{Bool, true, false, not, cond}
+use mathlib.Core.Bool.{Bool, true, false, not}
 use mathlib.Core.Option.{Option, none, some}
 use mathlib.Core.List.{List, [], _∷_, _++_}
 use lib.IntN.{ℤ, pos}
-use lib.ListN.{length, take, drop, getD, length-append, length-drop, replicate-append-replicate}
+use lib.ListN.{length, take, drop, getD, length-append, replicate-append-replicate}
 use lib.Dec.{leb, ltb}
 use lib.Seq.{take-add, take-at}
-use borrow.Author.Tests.{ltb-false, leb-false}
+use borrow.Author.Tests.{ltb-false}
 use Rattle.rules.specs.Limits.{textLimit, diagnosticLimit, diagnosticSize}
 use Rattle.rules.specs.Text.{isBlank, every, has}
 use Rattle.rules.specs.Fields.{fieldsOf, dataOf}
@@ -18,10 +18,10 @@ use Rattle.rules.specs.Records as rules
 use Rattle.rules.specs.Records.{_or_, isSome, given}
 use Rattle.rules.specs.Refusals.{Limits, Refusal, refusal, firstFailing, dataRefusal, refusalOf}
 use Rattle.rules.specs.Reading.{Lent, limits, diagnosticsOf, accepted, refused, reading}
-use Rattle.rules.specs.Words.{zeros, padded, cells, diagnosticWords, firstOnes, diagnosticCells}
+use Rattle.rules.specs.Words.{zeros, padded, cells, diagnosticWords, firstOnes}
 use Rattle.records.specs.Diagnostics.{heldCells}
 use Rattle.records.proofs.CellLaws.{length-cells}
-use Rattle.records.proofs.DiagnosticLaws.{length-diagnostic}
+use Rattle.records.proofs.DiagnosticLaws.{length-diagnostic, held-all}
 use Rattle.reading.specs.declared.read.Reading.{Reading}
 use Rattle.reading.specs.Answer.{Promised}
 use Rattle.reading.proofs.ReadingLaws.{few-first}
@@ -66,17 +66,6 @@ words-records ws (suc c) h =
     more m = omega arith
 
 -- ---- what is stored
-
--- where all find room, they stand in the scratch
-held-all : (ds : List rules.Diagnostic) (size : ℕ) → length (firstOnes ds) * diagnosticSize ≤ size → heldCells size ds ≡ padded size (diagnosticCells ds)
-held-all ds size h = ap (λ (k : ℕ). padded size (cells diagnosticWords (drop k ds))) (go (leb diagnosticLimit (size / diagnosticSize)) refl)
-  where
-    many : length (firstOnes ds) ≡ length ds - (length ds - diagnosticLimit)
-    many = length-drop (length ds - diagnosticLimit) ds
-
-    go : (b : Bool) → leb diagnosticLimit (size / diagnosticSize) ≡ b → length ds - cond b diagnosticLimit (size / diagnosticSize) ≡ length ds - diagnosticLimit
-    go true e = refl
-    go false e = let f = leb-false diagnosticLimit (size / diagnosticSize) e in omega (arith, f, h, many)
 
 -- an accepted text has 1,024 cells or more
 enough-lent : (text : List ℕ) (lent : Limits) → refusalOf text lent ≡ none → diagnosticLimit ≤ lent .diagnostics

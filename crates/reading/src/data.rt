@@ -88,7 +88,7 @@ fn stopped(number: u8, span: Span, st: Pae) -> Outcome
 }
 
 // Reads the data, which stands at offset `start` of the text, into cleared cells: a token at a time, each by its kind, in the order of the
-// published code. A token's check comes first, then what it diagnoses, then what it makes of the state and of the records.
+// published code. A token's check comes first, then what it diagnoses, then what it makes of the records and of the state.
 pub fn read_data(
     data: &[u8],
     start: usize,

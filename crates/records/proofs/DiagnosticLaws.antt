@@ -1,7 +1,7 @@
 -- One more diagnostic in the cells is one more in the rules. Assumes nothing.
 use Prim.Native.Nat.{ℕ, suc, _+_, _-_, _*_, _/_, _<_, _≤_}
 use native.Mathlib.Omega.{arith}
-use mathlib.Core.Path.{_≡_, refl, subst}
+use mathlib.Core.Path.{_≡_, refl, ap, subst}
 use mathlib.Core.Bool.{Bool, true, false, cond}
 use mathlib.Core.List.{List, _∷_}
 use lib.Dec.{ltb, leb}
@@ -10,7 +10,7 @@ use lib.ListN.{length, drop, length-append, length-drop, length-replicate}
 use borrow.Author.Tests.{ltb-true, ltb-false, leb-true, leb-false, lt-ltb, le-leb}
 use Rattle.rules.specs.Limits.{diagnosticLimit, diagnosticSize}
 use Rattle.rules.specs.Records.{Position, atLine, atField, atData, Value, textPart, parentheses, number, Diagnostic}
-use Rattle.rules.specs.Words.{diagnosticWords, firstOnes}
+use Rattle.rules.specs.Words.{cells, padded, diagnosticWords, firstOnes, diagnosticCells}
 use Rattle.records.specs.Cells.{withRecord}
 use Rattle.records.specs.Diagnostics.{countAfter, diagnosed, heldLimit, heldCells}
 use Rattle.records.proofs.CellLaws.{length-cells, padded-added}
@@ -103,3 +103,14 @@ module _ (d : Diagnostic) (ds : List Diagnostic) where
             let h = ltb-false (length ds) (heldLimit size) e in
             let count : heldLimit size ≤ length (firstOnes ds) = rw (length-drop (length ds - diagnosticLimit) ds) (omega (arith, h, held-few size .0)) in
             rw (dropped (heldLimit size) d ds h) (stays size (length (firstOnes ds)) (heldCells size ds) (diagnosticWords d) length-held count)
+
+-- where all find room, all stand in the cells
+pub held-all : (ds : List Diagnostic) (size : ℕ) → length (firstOnes ds) * diagnosticSize ≤ size → heldCells size ds ≡ padded size (diagnosticCells ds)
+held-all ds size h = ap (λ (k : ℕ). padded size (cells diagnosticWords (drop k ds))) (go (leb diagnosticLimit (size / diagnosticSize)) refl)
+  where
+    many : length (firstOnes ds) ≡ length ds - (length ds - diagnosticLimit)
+    many = length-drop (length ds - diagnosticLimit) ds
+
+    go : (b : Bool) → leb diagnosticLimit (size / diagnosticSize) ≡ b → length ds - cond b diagnosticLimit (size / diagnosticSize) ≡ length ds - diagnosticLimit
+    go true e = refl
+    go false e = let f = leb-false diagnosticLimit (size / diagnosticSize) e in omega (arith, f, h, many)
