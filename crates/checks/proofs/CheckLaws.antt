@@ -13,15 +13,15 @@ use Rattle.rules.specs.Limits.{noteLimit, noteSize, barSize, pitchCapacity, mar
 use Rattle.rules.specs.Tokens as token
 use Rattle.rules.specs.Records.{given, Note, Bar}
 use Rattle.rules.specs.Rules as rules
-use Rattle.rules.specs.Rules.{State, endsInNote, notesFrom, timedIn, closing, copied, repeatedBar}
-use Rattle.rules.specs.Refusals.{Limits, isFull, isMarkedFull, lastTimed, isFermata, overBars, passes, firstFailing, tokenRefusal}
+use Rattle.rules.specs.Rules.{State, endsInNote, notesFrom, nonGraceIn, closing, copied, repeatedBar}
+use Rattle.rules.specs.Refusals.{LentRecords, isFull, isMarkedFull, lastNonGrace, isFermata, overBars, passes, firstFailing, tokenRefusal}
 use Rattle.records.specs.Notes.{HasRoom, numberAt, markCountAt, marksAt, markLimit, pitchCountAt}
 use Rattle.records.specs.Groups.{timedCount}
 use Rattle.records.proofs.GroupLaws.{timed-below}
 use Rattle.records.proofs.RenotedLaws.{fermata-one}
-use Rattle.values.specs.declared.pae.Counts.{Counts}
-use Rattle.values.specs.declared.pae.Groups.{Groups}
-use Rattle.values.specs.declared.pae.Pae.{Pae}
+use Rattle.limits.specs.declared.Counts.{Counts}
+use Rattle.limits.specs.declared.Groups.{Groups}
+use Rattle.limits.specs.declared.Pae.{Pae}
 use Rattle.values.specs.declared.rhythm.Barline.{Barline}
 use Rattle.decode.specs.declared.Figure.{Figure}
 use Rattle.decode.specs.declared.Figure.the-variants as f
@@ -40,7 +40,7 @@ use Rattle.checks.proofs.TestLaws.{and-second, fermata-some}
 use Rattle.checks.proofs.StoredLaws.{stored-count, full-agrees, marked-agrees, last-room, group-timed, fermata-agrees, fermata-room}
 
 -- the lent records, as the rules have them
-abbrev pub lentIn : Room → ℕ → Limits
+abbrev pub lentIn : Room → ℕ → LentRecords
 lentIn room diagnostics = record { notes = room .notes; bars = room .bars; figure = room .figure; diagnostics = diagnostics }
 
 -- ---- numbers
@@ -110,11 +110,11 @@ module _ {size : ℕ} (st : Pae) {s : State} {l : List ℤ} {joined : Bool} (roo
       marks : Bool
       marks = leb markCapacity (numberAt markCountAt (fermataRecord (groupCells (st .groups) (st .counts) l) (groupSize (st .groups) (st .counts))))
 
-      one : (b : Bool) → isFermata (rules.closingOf open′ s) ≡ b → b && isMarkedFull (lastTimed (s .openBar)) ≡ b && marks
-      one true e = fermata-agrees held g (fermata-some (timedIn (notesFrom (g .paren .length) (s .openBar))) (countIn (g .count)) e)
+      one : (b : Bool) → isFermata (rules.closingOf open′ s) ≡ b → b && isMarkedFull (lastNonGrace (s .openBar)) ≡ b && marks
+      one true e = fermata-agrees held g (fermata-some (nonGraceIn (notesFrom (g .paren .length) (s .openBar))) (countIn (g .count)) e)
       one false e = refl
 
-      go : (b : Bool) → cond (given (cond b (some open′) none) false (λ o. isFermata (rules.closingOf o s) && isMarkedFull (lastTimed (s .openBar)))) (some 10) none
+      go : (b : Bool) → cond (given (cond b (some open′) none) false (λ o. isFermata (rules.closingOf o s) && isMarkedFull (lastNonGrace (s .openBar)))) (some 10) none
           ≡ numberIn (cond b (failing (isFermata (rules.closingOf open′ s) && marks) 10) 0)
       go true = rw (one (isFermata (rules.closingOf open′ s)) refl) (number-one 10 refl (isFermata (rules.closingOf open′ s) && marks))
       go false = refl

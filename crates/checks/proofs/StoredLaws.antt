@@ -11,19 +11,19 @@ use lib.Dec.{leb}
 use borrow.Author.Tests.{leb-true, leb-false}
 use Rattle.rules.specs.Limits.{noteSize, pitchCapacity, markCapacity}
 use Rattle.rules.specs.Records.{Note, Bar, notesOf}
-use Rattle.rules.specs.Rules.{endsInNote, isTimed, timedIn, notesFrom}
+use Rattle.rules.specs.Rules.{endsInNote, isNonGrace, nonGraceIn, notesFrom}
 use Rattle.rules.specs.Refusals as rules
 use Rattle.rules.specs.Refusals.{isFull, isMarkedFull}
 use Rattle.rules.specs.Words.{cells, zeros, noteWords}
 use Rattle.records.specs.Cells.{recordAt}
 use Rattle.records.specs.Notes.{numberAt, kindAt, markCountAt, marksAt, pitchCountAt, markLimit, HasRoom}
-use Rattle.records.specs.Groups.{timedAt, timedCount, lastTimed}
+use Rattle.records.specs.Groups.{timedAt, timedCount, lastNonGrace}
 use Rattle.records.proofs.CellLaws.{record-read, word-read}
 use Rattle.records.proofs.NoteLaws.{mark-fits, marks-fit}
 use Rattle.records.proofs.GroupLaws.{wordsIn, length-in, timed-none, last-more}
 use Rattle.records.proofs.StoredLaws.{storedIn, part-cells, part-timed, length-part}
-use Rattle.values.specs.declared.pae.Counts.{Counts}
-use Rattle.values.specs.declared.pae.Groups.{Groups}
+use Rattle.limits.specs.declared.Counts.{Counts}
+use Rattle.limits.specs.declared.Groups.{Groups}
 use Rattle.steps.specs.State.{hasContent}
 use Rattle.steps.specs.Notes.{lastField}
 use Rattle.steps.specs.Relation.{Stored}
@@ -60,22 +60,22 @@ data First (b : ℕ) (ns : List Note) (words : List ℤ) : Type 0 where
   first : (n : Note) (more : List Note) → ns ≡ n ∷ more → words ≡ wordsIn b n → First b ns words
 
 module _ (b : ℕ) (zs : List ℤ) where
-  timed-read : (l : List ℤ) (p : List Note) (n : Note) (q : List Note) → l ≡ cells (wordsIn b) (p ++ n ∷ q) ++ zs → timedAt l (length q) ≡ isTimed n
+  timed-read : (l : List ℤ) (p : List Note) (n : Note) (q : List Note) → l ≡ cells (wordsIn b) (p ++ n ∷ q) ++ zs → timedAt l (length q) ≡ isNonGrace n
   timed-read l p n q e = rw (e, word-read (wordsIn b) noteSize (length-in b) p n q zs kindAt (omega arith))
 
   abbrev LastAt : List ℤ → ℕ → List Note → Type 0
   LastAt l number ns = First b ns (recordAt noteSize l number)
 
-  last-one : (l : List ℤ) (p : List Note) (n : Note) (q r : List Note) → l ≡ cells (wordsIn b) (p ++ n ∷ q) ++ zs → (t : Bool) → 0 < cond t (suc (timedIn q)) (timedIn q)
-      → (0 < timedIn q → LastAt l (lastTimed l (length q)) (rules.lastTimed (q ++ r))) → LastAt l (cond t (length q) (lastTimed l (length q))) (cond t (n ∷ q ++ r) (rules.lastTimed (q ++ r)))
+  last-one : (l : List ℤ) (p : List Note) (n : Note) (q r : List Note) → l ≡ cells (wordsIn b) (p ++ n ∷ q) ++ zs → (t : Bool) → 0 < cond t (suc (nonGraceIn q)) (nonGraceIn q)
+      → (0 < nonGraceIn q → LastAt l (lastNonGrace l (length q)) (rules.lastNonGrace (q ++ r))) → LastAt l (cond t (length q) (lastNonGrace l (length q))) (cond t (n ∷ q ++ r) (rules.lastNonGrace (q ++ r)))
   last-one l p n q r e true h k = first n (q ++ r) refl (rw e (record-read (wordsIn b) noteSize (length-in b) p n q zs))
   last-one l p n q r e false h k = k h
 
-  last-read : (l : List ℤ) (p q r : List Note) → l ≡ cells (wordsIn b) (p ++ q) ++ zs → 0 < timedIn q → LastAt l (lastTimed l (length q)) (rules.lastTimed (q ++ r))
+  last-read : (l : List ℤ) (p q r : List Note) → l ≡ cells (wordsIn b) (p ++ q) ++ zs → 0 < nonGraceIn q → LastAt l (lastNonGrace l (length q)) (rules.lastNonGrace (q ++ r))
   last-read l p [] r e h = absurd (omega arith)
   last-read l p (n ∷ q) r e h =
-      let more : lastTimed l (suc (length q)) ≡ cond (isTimed n) (length q) (lastTimed l (length q)) = rw (← add-one (length q), last-more, timed-read l p n q e) in
-      rw more (last-one l p n q r e (isTimed n) h (last-read l (p ++ n ∷ []) q r (rw (append-assoc p (n ∷ []) q) e)))
+      let more : lastNonGrace l (suc (length q)) ≡ cond (isNonGrace n) (length q) (lastNonGrace l (length q)) = rw (← add-one (length q), last-more, timed-read l p n q e) in
+      rw more (last-one l p n q r e (isNonGrace n) h (last-read l (p ++ n ∷ []) q r (rw (append-assoc p (n ∷ []) q) e)))
 
 first-marked : {b : ℕ} {ns : List Note} {words : List ℤ} → First b ns words → isMarkedFull ns ≡ leb markCapacity (numberAt markCountAt words)
 first-marked (first n more e f) = rw (e, f)
@@ -84,7 +84,7 @@ first-room : {b : ℕ} {ns : List Note} {words : List ℤ} → First b ns words 
 first-room {b} (first n more e f) h = rw f (room-in b n (rw f at h))
 
 -- a start with non-grace records behind it is within the open bar
-some-inside : (start : ℕ) (ns : List Note) → 0 < timedIn (notesFrom start ns) → start ≤ length ns
+some-inside : (start : ℕ) (ns : List Note) → 0 < nonGraceIn (notesFrom start ns) → start ≤ length ns
 some-inside start ns h = go (leb start (length ns)) refl
   where
     go : (t : Bool) → leb start (length ns) ≡ t → start ≤ length ns
@@ -99,17 +99,17 @@ module _ {size : ℕ} {ns : List Note} {bs : List Bar} {c : Counts} {l : List �
   group-size = omega arith
 
   -- the open group's non-grace records
-  pub group-timed : timedCount (groupCells g c l) (groupSize g c) ≡ timedIn part
+  pub group-timed : timedCount (groupCells g c l) (groupSize g c) ≡ nonGraceIn part
   group-timed = go (leb (g .paren .length) (length ns)) refl
     where
-      go : (t : Bool) → leb (g .paren .length) (length ns) ≡ t → timedCount (groupCells g c l) (groupSize g c) ≡ timedIn part
+      go : (t : Bool) → leb (g .paren .length) (length ns) ≡ t → timedCount (groupCells g c l) (groupSize g c) ≡ nonGraceIn part
       go true e = (λ i. timedCount (drop ((q .first i + g .paren .length) * noteSize) (q .written i)) (group-size i)) ∙ part-timed size ns bs (g .paren .length) (leb-true (g .paren .length) (length ns) e)
       go false e =
           let k = leb-false (g .paren .length) (length ns) e in
           let z : length ns - g .paren .length ≡ 0 = omega arith in
           rw (group-size, z, timed-none)
 
-  fermata-first : 0 < timedIn part → First (suc (length bs)) (rules.lastTimed ns) (fermataRecord (groupCells g c l) (groupSize g c))
+  fermata-first : 0 < nonGraceIn part → First (suc (length bs)) (rules.lastNonGrace ns) (fermataRecord (groupCells g c l) (groupSize g c))
   fermata-first h =
       let inside = some-inside (g .paren .length) ns h in
       let zs = zeros (size - length (cells noteWords (storedIn ns bs))) in
@@ -117,9 +117,9 @@ module _ {size : ℕ} {ns : List Note} {bs : List Bar} {c : Counts} {l : List �
       rw (length-part size ns bs (g .paren .length) inside, ← group-size, take-append-drop) at (last-read (suc (length bs)) zs (groupCells g c l) [] part (drop (length ns - g .paren .length) ns) held h)
 
   -- 10 at `)`
-  pub fermata-agrees : 0 < timedIn part → isMarkedFull (rules.lastTimed ns) ≡ leb markCapacity (numberAt markCountAt (fermataRecord (groupCells g c l) (groupSize g c)))
+  pub fermata-agrees : 0 < nonGraceIn part → isMarkedFull (rules.lastNonGrace ns) ≡ leb markCapacity (numberAt markCountAt (fermataRecord (groupCells g c l) (groupSize g c)))
   fermata-agrees h = first-marked (fermata-first h)
 
   -- one more mark fits
-  pub fermata-room : 0 < timedIn part → numberAt markCountAt (fermataRecord (groupCells g c l) (groupSize g c)) < markCapacity → HasRoom (fermataRecord (groupCells g c l) (groupSize g c))
+  pub fermata-room : 0 < nonGraceIn part → numberAt markCountAt (fermataRecord (groupCells g c l) (groupSize g c)) < markCapacity → HasRoom (fermataRecord (groupCells g c l) (groupSize g c))
   fermata-room h = first-room (fermata-first h)

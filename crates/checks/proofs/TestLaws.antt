@@ -18,11 +18,11 @@ use Rattle.rules.specs.Refusals.{isFermata}
 use Rattle.records.specs.Cells.{recordAt}
 use Rattle.records.specs.Notes.{numberAt, markCountAt}
 use Rattle.records.specs.declared.group.Timed.{Timed}
-use Rattle.records.specs.Groups.{timedCount, lastTimed}
+use Rattle.records.specs.Groups.{timedCount, lastNonGrace}
 use Rattle.records.proofs.GroupLaws.{last-below, timed-below}
-use Rattle.values.specs.declared.pae.Voice.{Voice}
-use Rattle.values.specs.declared.pae.Counts.{Counts}
-use Rattle.values.specs.declared.pae.Groups.{Groups}
+use Rattle.limits.specs.declared.Voice.{Voice}
+use Rattle.limits.specs.declared.Counts.{Counts}
+use Rattle.limits.specs.declared.Groups.{Groups}
 use Rattle.steps.specs.State.{hasContent, openLength, repeatedCount}
 use Rattle.steps.specs.Notes.{endsOf, joinsOf}
 use Rattle.steps.specs.Relation.{countIn}
@@ -75,7 +75,7 @@ fermata-some zero count e = absurd (false≢true e)
 fermata-some (suc timed) count e = omega arith
 
 -- the last non-grace record is one of the part
-last-inside : (l : List ℤ) (n : ℕ) {last : ℕ} → last ≡ lastTimed l n → 0 < n → last < n
+last-inside : (l : List ℤ) (n : ℕ) {last : ℕ} → last ≡ lastNonGrace l n → 0 < n → last < n
 last-inside l n e h = rw e (last-below l n n (omega arith) h)
 
 module _ (g : Groups) (c : Counts) (l : List ℤ) where
@@ -87,7 +87,7 @@ module _ (g : Groups) (c : Counts) (l : List ℤ) where
 
   -- the open group's records by whether there is one
   abbrev timedIf : Bool → Timed
-  timedIf noted = cond noted (record { count = timedCount part size; last = lastTimed part size }) (record { count = 0; last = 0 })
+  timedIf noted = cond noted (record { count = timedCount part size; last = lastNonGrace part size }) (record { count = 0; last = 0 })
 
   -- a group that closes to a fermata has its record in the open bar
   pub fermata-inside : (count : Option ℕ) {timed : Timed} → timed ≡ groupTimed g c l → isFermata (closing (timed .count) count) ≡ true → g .paren .length + timed .last < openLength c
@@ -106,7 +106,7 @@ module _ (g : Groups) (c : Counts) (l : List ℤ) where
     where
       go : (noted : Bool) → isFermata (closing (timedIf noted .count) (countIn (g .count))) ≡ b
           → cond noted (fermataCheck part size (g .count)) 0 ≡ failing (b && leb markCapacity (numberAt markCountAt (recordAt noteSize part (timedIf noted .last)))) 10
-      go true f = ap (λ (x : Bool). failing (x && leb markCapacity (numberAt markCountAt (recordAt noteSize part (lastTimed part size)))) 10) f
+      go true f = ap (λ (x : Bool). failing (x && leb markCapacity (numberAt markCountAt (recordAt noteSize part (lastNonGrace part size)))) 10) f
       go false f = ap (λ (x : Bool). failing (x && leb markCapacity (numberAt markCountAt (recordAt noteSize part 0))) 10) f
 
 -- ---- cells

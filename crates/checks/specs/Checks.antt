@@ -10,11 +10,11 @@ use Rattle.rules.specs.Rules.{closing}
 use Rattle.rules.specs.Refusals.{isFermata}
 use Rattle.records.specs.Cells.{recordAt}
 use Rattle.records.specs.Notes.{numberAt, markCountAt, pitchCountAt}
-use Rattle.records.specs.Groups.{timedCount, lastTimed}
+use Rattle.records.specs.Groups.{timedCount, lastNonGrace}
 use Rattle.records.specs.declared.group.Timed.{Timed}
-use Rattle.values.specs.declared.pae.Counts.{Counts}
-use Rattle.values.specs.declared.pae.Groups.{Groups}
-use Rattle.values.specs.declared.pae.Pae.{Pae}
+use Rattle.limits.specs.declared.Counts.{Counts}
+use Rattle.limits.specs.declared.Groups.{Groups}
+use Rattle.limits.specs.declared.Pae.{Pae}
 use Rattle.decode.specs.declared.Figure.{Figure}
 use Rattle.decode.specs.declared.Figure.the-variants as f
 use Rattle.decode.specs.declared.Marking.{Marking}
@@ -71,7 +71,7 @@ trillCheck c cells = failing (hasContent c && leb markCapacity (lastField markCo
 
 -- the record of a part of the cells that a fermata marks: the last non-grace one of the first `size`
 abbrev pub fermataRecord : List ℤ → ℕ → List ℤ
-fermataRecord part size = recordAt noteSize part (lastTimed part size)
+fermataRecord part size = recordAt noteSize part (lastNonGrace part size)
 
 -- a group of these records, with this count, closes to a fermata: its one non-grace record
 abbrev pub fermataCheck : List ℤ → ℕ → ℕ → ℕ
@@ -87,7 +87,7 @@ groupSize g c = openLength c - g .paren .length
 -- the open group's non-grace records, if there is one: how many, and the number of the last
 abbrev pub groupTimed : Groups → Counts → List ℤ → Timed
 groupTimed g c cells = let part = groupCells g c cells in let size = groupSize g c in
-    cond (g .paren .noted) (record { count = timedCount part size; last = lastTimed part size }) (record { count = 0; last = 0 })
+    cond (g .paren .noted) (record { count = timedCount part size; last = lastNonGrace part size }) (record { count = 0; last = 0 })
 
 -- `)`: the open group, if there is one
 abbrev pub groupCheck : Groups → Counts → List ℤ → ℕ

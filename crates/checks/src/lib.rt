@@ -9,6 +9,9 @@ ghost use Rattle.rules.specs.Refusals.{isFermata};
 ghost use Rattle.records.specs.Cells.{wordLimit};
 ghost use Rattle.steps.specs.Relation.{countIn};
 ghost use Rattle.checks.specs.Checks.{failing, storing, letterCheck, barCheck, endCheck, markCheck, trillCheck, groupTimed, groupCheck};
+use limits::Counts;
+use limits::Groups;
+use limits::Pae;
 use records::group::Timed;
 use records::group::timed_from;
 use records::note::MARK_COUNT;
@@ -17,9 +20,6 @@ use records::note::field;
 use steps::state::figure_closed;
 use steps::state::has_content;
 use steps::state::open_length;
-use values::pae::Counts;
-use values::pae::Groups;
-use values::pae::Pae;
 
 // How many whole records are lent for notes, bars and the figure.
 pub struct Room {

@@ -52,7 +52,7 @@ tokenIn b value (t.Figure figure) = rules.figure (figureIn figure)
 tokenIn b value (t.Marking marking) = rules.marking (markingIn value marking)
 tokenIn b value t.Blank = rules.other rules.blank
 tokenIn b value t.Colon = rules.other rules.colon
-tokenIn b value t.MeasureRest = rules.other rules.measureRest
+tokenIn b value t.MeasureRest = rules.other rules.wholeBarRest
 tokenIn b value t.Unknown = rules.other rules.unknown
 
 -- a token whose first byte has no rule of its own goes by the class of that byte

@@ -1,6 +1,6 @@
 // What a token of the data is, by its bytes.
 ghost use mathlib.Core.Path.{_≡_};
-ghost use Prim.Native.Nat.{ℕ};
+ghost use Prim.Native.Nat.{ℕ, _<_};
 ghost use mathlib.Core.List.{List};
 ghost use Rattle.decode.specs.Decode.{Decoded, tokenIn, byClass, Fine};
 use text::is_blank;
@@ -60,6 +60,7 @@ pub enum Token {
 
 // A lone `:` (58), or the barline that begins with it.
 fn colon(size: usize) -> Token
+    requires { ⌜ 0 < size ⌝ }
     ensures { λ r. ⌜ Decoded 58 size r ⌝ }
 {
     if size == 1 {
@@ -70,6 +71,7 @@ fn colon(size: usize) -> Token
 
 // `q` (113) or `qq`.
 fn grace(size: usize) -> Token
+    requires { ⌜ 0 < size ⌝ }
     ensures { λ r. ⌜ Decoded 113 size r ⌝ }
 {
     if size == 1 {
@@ -96,6 +98,7 @@ fn by_class(first: u8) -> Token
 
 // What the token is that begins with the byte `first` and has `size` bytes.
 pub fn decode(first: u8, size: usize) -> Token
+    requires { ⌜ 0 < size ⌝ }
     ensures { λ r. ⌜ Decoded first size r ⌝ }
 {
     match first {

@@ -12,7 +12,7 @@ use Rattle.rules.specs.Limits.{textLimit, diagnosticLimit}
 use Rattle.rules.specs.Text.{isBlank, every, has, Part}
 use Rattle.rules.specs.Records.{_or_, isSome, given}
 use Rattle.rules.specs.Fields.{fieldsOf, dataOf}
-use Rattle.rules.specs.Refusals.{Limits, Refusal, refusal, firstFailing, textRefusal, dataRefusal, refusalOf}
+use Rattle.rules.specs.Refusals.{LentRecords, Refusal, refusal, firstFailing, textRefusal, dataRefusal, refusalOf}
 use Rattle.entry.specs.Entry.{firstOf, entryCheck}
 
 -- ---- by whether each check fails
@@ -49,7 +49,7 @@ module _ (text : List ℕ) where
   pub data-read : {p : Part} → fieldsOf text .dataValue ≡ some p → dataOf text ≡ p
   data-read e = ap (λ (o : Option Part). Option·getD o (record { start = 0; bytes = [] })) e
 
-  module _ (lent : Limits) where
+  module _ (lent : LentRecords) where
     pub text-refused : {n : ℕ} → entryCheck text (lent .diagnostics) ≡ n → (n ≡ 0 → ⊥) → textRefusal text lent ≡ some (refusal n 0)
     unfolding entryCheck
     text-refused e h =

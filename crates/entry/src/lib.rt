@@ -1,9 +1,9 @@
 // The checks at the entry, before the text is read.
 ghost use mathlib.Core.Path.{_≡_};
 ghost use Rattle.entry.specs.Entry.{entryCheck};
+use limits::Pae;
 use text::is_ascii;
 use text::is_blank_text;
-use values::pae::Pae;
 
 // The first of checks 1 to 4 that fails, 0 where none does.
 pub fn entry_check(text: &[u8], cells: usize) -> u8

@@ -18,7 +18,7 @@ use Rattle.text.specs.declared.FieldKey.{FieldKey}
 use Rattle.text.specs.declared.FieldKey.the-variants.{Clef, Keysig, Timesig, Data, Other}
 use Rattle.text.proofs.KeyLaws.{isClef, isKeysig, isTimesig, isData, key-told}
 use Rattle.text.proofs.FieldLaws.{field-within}
-use Rattle.values.specs.declared.pae.Attributes.{Attributes}
+use Rattle.limits.specs.declared.Attributes.{Attributes}
 use Rattle.steps.specs.State.{clefSet, keySet, meterSet}
 use Rattle.steps.specs.Relation.{numberIn, Attributed}
 use Rattle.fields.specs.declared.Fields.{Fields}

@@ -15,8 +15,8 @@ use Rattle.text.specs.Parts.{partAt}
 use Rattle.text.specs.Keys.{fieldKeyOf}
 use Rattle.text.specs.declared.FieldKey.{FieldKey}
 use Rattle.text.specs.declared.FieldKey.the-variants.{Clef, Keysig, Timesig, Data, Other}
-use Rattle.values.specs.Pae.{freshPae}
-use Rattle.values.specs.declared.pae.Attributes.{Attributes}
+use Rattle.limits.specs.Pae.{freshPae}
+use Rattle.limits.specs.declared.Attributes.{Attributes}
 use Rattle.records.specs.Cells.{wordLimit}
 use Rattle.steps.specs.State.{clefSet, keySet, meterSet}
 use Rattle.diagnose.specs.Found.{countAfterAll, cellsAfterAll}

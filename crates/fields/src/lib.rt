@@ -22,6 +22,8 @@ use diagnose::key_found;
 use diagnose::line_found;
 use diagnose::meter_found;
 use diagnose::store_found;
+use limits::Attributes;
+use limits::Pae;
 use records::Line;
 use records::Offset;
 use steps::state::set_clef;
@@ -36,8 +38,6 @@ use text::trim;
 use values::attributes::clef_of;
 use values::attributes::key_of;
 use values::attributes::meter_of;
-use values::pae::Attributes;
-use values::pae::Pae;
 
 // What the lines have set: the attributes, the data value, if there is one, by its offsets; and how many diagnostics are stored.
 pub struct Fields {
@@ -195,7 +195,7 @@ fn no_fields() -> Fields
 }
 
 // The fields of a text, its diagnostics stored.
-pub fn read_fields(text: &[u8], scratch: &mut [i32]) -> Fields
+fn read_fields(text: &[u8], scratch: &mut [i32]) -> Fields
     requires { ⌜ (length (now text) ≤ textLimit) × (now scratch ≡ zeros (length (now scratch))) ⌝ }
     ensures { λ r. ⌜ Taken (now (text .entry)) (fieldsAfter (linesOf (now (text .entry)))) r × Diagnosed (length (now (scratch .entry))) (linesDiagnosed (linesOf (now (text .entry)))) (r .diagnostics) (now (scratch .exit)) ⌝ }
 {

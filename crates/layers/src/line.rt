@@ -16,6 +16,7 @@ use super::row::say_heading;
 use super::row::say_number;
 use super::row::say_row;
 use fields::in_field_form;
+use limits::Pae;
 use text::begins_with;
 use text::line_end;
 use text::trim;
@@ -75,7 +76,7 @@ fn digits_before(number: usize, back: usize) -> usize {
 
 // What the ruler has above the place behind an offset: each tenth place is the last digit of its number.
 fn tick(offset: usize) -> u8 {
-    if 65535 < offset {
+    if Pae::MAX_INPUT_BYTES < offset {
         return b'.';
     }
     if offset == 0 {
@@ -94,7 +95,7 @@ fn tick(offset: usize) -> u8 {
 
 // The last place of a ruler: its tens are whole.
 fn whole_tens(end: usize) -> usize {
-    if 65535 < end {
+    if Pae::MAX_INPUT_BYTES < end {
         return end;
     }
     (end + 9) / 10 * 10

@@ -18,6 +18,7 @@ use bars::show_bars;
 use fields::Fields;
 use fields::fields_of;
 use libc::STDIN_FILENO;
+use limits::Pae;
 use line::Outcome;
 use line::show_text;
 use lookback::enter_stored;
@@ -29,12 +30,10 @@ use reading::read::Reading;
 use reading::read::read;
 use records::cells::DIAGNOSTIC;
 use records::cells::clear;
-use records::diagnostic::DIAGNOSTICS;
 use row::say_heading;
 use row::say_row;
 use show::byte_at;
 use text::begins_with;
-use values::pae::Pae;
 use why::KeyField;
 use why::show_whys;
 
@@ -46,9 +45,9 @@ const NOTE_WORDS: usize = 176000;
 
 const BAR_WORDS: usize = 40000;
 
-const SCRATCH: usize = DIAGNOSTICS * DIAGNOSTIC;
+const SCRATCH: usize = Pae::MAX_DIAGNOSTICS * DIAGNOSTIC;
 
-const CELLS: usize = DIAGNOSTICS;
+const CELLS: usize = Pae::MAX_DIAGNOSTICS;
 
 // Marks are numbered from 1, and a text has no more of them than bytes.
 const MARKS: usize = 65536;

@@ -2,6 +2,7 @@
 // Its standard input is document 01's lines to prove.
 use libc::STDIN_FILENO;
 use libc::STDOUT_FILENO;
+use limits::Pae;
 use reading::read::Reading;
 use reading::read::read;
 use records::cells::BAR;
@@ -11,7 +12,6 @@ use records::cells::NOTE;
 use records::cells::PITCH;
 use records::cells::clear;
 use records::cells::natural;
-use records::diagnostic::DIAGNOSTICS;
 use records::note::PITCH_COUNT;
 use show::magnitude;
 use show::word_at;
@@ -24,7 +24,7 @@ const BARS: usize = 16 * BAR;
 
 const FIGURE: usize = 16 * NOTE;
 
-const CELLS: usize = DIAGNOSTICS;
+const CELLS: usize = Pae::MAX_DIAGNOSTICS;
 
 const SCRATCH: usize = CELLS * DIAGNOSTIC;
 

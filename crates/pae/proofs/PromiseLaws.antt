@@ -16,9 +16,9 @@ use Rattle.rules.specs.Text.{isBlank, every, has}
 use Rattle.rules.specs.Fields.{fieldsOf, dataOf}
 use Rattle.rules.specs.Records as rules
 use Rattle.rules.specs.Records.{_or_, isSome, given}
-use Rattle.rules.specs.Refusals.{Limits, Refusal, refusal, firstFailing, dataRefusal, refusalOf}
-use Rattle.rules.specs.Reading.{Lent, limits, diagnosticsOf, accepted, refused, reading}
-use Rattle.rules.specs.Words.{zeros, padded, cells, diagnosticWords, firstOnes}
+use Rattle.rules.specs.Refusals.{LentRecords, Refusal, refusal, firstFailing, dataRefusal, refusalOf}
+use Rattle.rules.specs.Reading.{Lent, lentRecords, diagnosticsOf, accepted, refused, reading}
+use Rattle.rules.specs.Words.{zeros, padded, cells, diagnosticWords, storedDiagnostics}
 use Rattle.records.specs.Diagnostics.{heldCells}
 use Rattle.records.proofs.CellLaws.{length-cells}
 use Rattle.records.proofs.DiagnosticLaws.{length-diagnostic, held-all}
@@ -68,7 +68,7 @@ words-records ws (suc c) h =
 -- ---- what is stored
 
 -- an accepted text has 1,024 cells or more
-enough-lent : (text : List ℕ) (lent : Limits) → refusalOf text lent ≡ none → diagnosticLimit ≤ lent .diagnostics
+enough-lent : (text : List ℕ) (lent : LentRecords) → refusalOf text lent ≡ none → diagnosticLimit ≤ lent .diagnostics
 unfolding refusalOf
 enough-lent text lent e = ltb-false (lent .diagnostics) diagnosticLimit (go (ltb textLimit (length text)) (ltb (lent .diagnostics) diagnosticLimit) (has (leb 128) text) (every isBlank text) (not (isSome (fieldsOf text .dataValue))) (dataRefusal lent (fieldsOf text .attributes) (dataOf text)) e)
   where
@@ -80,7 +80,7 @@ enough-lent text lent e = ltb-false (lent .diagnostics) diagnosticLimit (go (ltb
 module _ (text : List ℕ) (lent : Lent) where
   -- the stored diagnostics
   abbrev ds : List rules.Diagnostic
-  ds = firstOnes (diagnosticsOf text)
+  ds = storedDiagnostics (diagnosticsOf text)
 
   few : (o : Option Refusal) → given o (accepted text lent) (refused lent) .diagnostics ≤ diagnosticLimit
   few none = few-first (diagnosticsOf text)
@@ -98,16 +98,16 @@ module _ (text : List ℕ) (lent : Lent) where
       ∙ (λ i. (words-records z (length ds) (omega (arith, l, length-append (cells diagnosticWords ds) (zeros (size - length (cells diagnosticWords ds))))) ∙ take-at (cells diagnosticWords ds) (zeros (size - length (cells diagnosticWords ds))) (length ds * diagnosticSize) l) i ++ words-blank (n - length ds) i)
       ∙ ap (λ (m : ℕ). cells diagnosticWords ds ++ zeros m) left
 
-  listed : (size : ℕ) (o : Option Refusal) → refusalOf text (limits lent) ≡ o → given o (accepted text lent) (refused lent) .diagnostics * diagnosticSize ≤ size
+  listed : (size : ℕ) (o : Option Refusal) → refusalOf text (lentRecords lent) ≡ o → given o (accepted text lent) (refused lent) .diagnostics * diagnosticSize ≤ size
       → words (published (blanks (lent .diagnostics)) (given o (heldCells size (diagnosticsOf text)) (λ r. zeros size)) (given o (accepted text lent) (refused lent) .diagnostics)) ≡ given o (accepted text lent) (refused lent) .diagnosticCells
-  listed size none e h = ap (λ (ws : List ℤ). words (published (blanks (lent .diagnostics)) ws (length ds))) (held-all (diagnosticsOf text) size h) ∙ stored size (enough-lent text (limits lent) e)
+  listed size none e h = ap (λ (ws : List ℤ). words (published (blanks (lent .diagnostics)) ws (length ds))) (held-all (diagnosticsOf text) size h) ∙ stored size (enough-lent text (lentRecords lent) e)
   listed size (some r) e h = words-blank (lent .diagnostics)
 
 -- ---- the promise
 
 pub few-diagnostics : {text : List ℕ} {lent : Lent} {size : ℕ} {r : Reading} {notes bars figure scratch : List ℤ} → Promised text lent size r notes bars figure scratch → r .diagnostics ≤ diagnosticLimit
 unfolding reading
-few-diagnostics {text} {lent} p = rw (p .answered .diagnosticCount) (few text lent (refusalOf text (limits lent)))
+few-diagnostics {text} {lent} p = rw (p .answered .diagnosticCount) (few text lent (refusalOf text (lentRecords lent)))
 
 pub promise : {text : List ℕ} {lent : Lent} {size : ℕ} {r : Reading} {notes bars figure scratch : List ℤ} {diagnostics : List Diagnostic} → Promised text lent size r notes bars figure scratch
     → r .diagnostics * diagnosticSize ≤ size → diagnostics ≡ published (blanks (lent .diagnostics)) scratch (r .diagnostics) → Promise text lent r notes bars figure diagnostics
@@ -123,6 +123,6 @@ promise {text} {lent} {size} p h e =
       noteCells = a .noteCells;
       barCells = a .barCells;
       figureCells = a .figureCells;
-      diagnosticCells = ap words e ∙ (λ i. words (published (blanks (lent .diagnostics)) (a .diagnosticCells i) (a .diagnosticCount i))) ∙ listed text lent size (refusalOf text (limits lent)) refl all;
+      diagnosticCells = ap words e ∙ (λ i. words (published (blanks (lent .diagnostics)) (a .diagnosticCells i) (a .diagnosticCount i))) ∙ listed text lent size (refusalOf text (lentRecords lent)) refl all;
       demand3 = p .demand3;
     }

@@ -1,11 +1,12 @@
 -- The lent list of diagnostics, cell by cell. Assumes nothing.
-use Prim.Native.Nat.{ℕ, zero, suc, _+_, _*_}
+use Prim.Native.Nat.{ℕ, zero, suc}
 use mathlib.Core.Bool.{cond}
 use mathlib.Core.List.{List, [], _∷_}
 use lib.Dec.{ltb}
 use lib.IntN.{ℤ, pos}
-use lib.ListN.{length, set, replicate, getD}
-use Rattle.rules.specs.Limits.{diagnosticSize}
+use lib.ListN.{length, set, replicate}
+use Rattle.records.specs.declared.diagnostic.Diagnostic as records
+use Rattle.records.specs.Diagnostics.{diagnosticAt}
 use Rattle.pae.specs.declared.Diagnostic.{Diagnostic}
 
 -- the six words of each diagnostic, one after the other
@@ -24,13 +25,13 @@ blanks n = replicate n blank
 abbrev pub stored : List Diagnostic → ℕ → Diagnostic → List Diagnostic
 stored ds count d = cond (ltb count (length ds)) (set ds count d) ds
 
--- word k of a list, and record i of six words each
-abbrev word : List ℤ → ℕ → ℤ
-word ws k = getD ws k (pos 0)
+-- the form in which a diagnostic is lent
+abbrev pub lentOf : records.Diagnostic → Diagnostic
+lentOf d = record { number = d .number; «place_kind» = d .«place_kind»; place = d .place; «value_kind» = d .«value_kind»; start = d .start; end = d .end }
 
+-- record i of the scratch words
 abbrev pub recordAt : List ℤ → ℕ → Diagnostic
-recordAt ws i = let at = i * diagnosticSize in
-    record { number = word ws at; «place_kind» = word ws (at + 1); place = word ws (at + 2); «value_kind» = word ws (at + 3); start = word ws (at + 4); end = word ws (at + 5) }
+recordAt ws i = lentOf (diagnosticAt ws i)
 
 -- the first n records, stored one after the other
 abbrev pub published : List Diagnostic → List ℤ → ℕ → List Diagnostic

@@ -20,4 +20,4 @@ pub record Promise (text : List ℕ) (lent : Lent) (r : Reading) (notes bars fig
   pub barCells : bars ≡ reading text lent .barCells
   pub figureCells : figure ≡ reading text lent .figureCells
   pub diagnosticCells : words diagnostics ≡ reading text lent .diagnosticCells
-  pub demand3 : r .number ≡ 0 → Demand3 text (reading text lent) lent
+  pub demand3 : r .number ≡ 0 → Demand3 text (r .notes) notes

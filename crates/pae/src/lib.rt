@@ -4,12 +4,15 @@ ghost use Prim.Native.Nat.{_+_, _*_, _≤_};
 ghost use lib.ListN.{length};
 ghost use Rattle.rules.specs.Limits.{diagnosticSize};
 ghost use Rattle.reading.specs.Answer.{lentWords};
-ghost use Rattle.pae.specs.List.{blank, blanks, stored, recordAt, published};
+ghost use Rattle.pae.specs.List.{blank, blanks, stored, lentOf, recordAt, published};
 ghost use Rattle.pae.specs.Promise.{Promise};
+use limits::Pae;
 use reading::read::Reading;
 use reading::read::read;
 use records::cells::DIAGNOSTIC;
-use records::diagnostic::DIAGNOSTICS;
+use records::diagnostic;
+use records::diagnostic::diagnostic_at;
+use records::diagnostic::words_of;
 
 // So many diagnostics find room in the scratch that is tried first: few texts have more.
 const NEAR: usize = 64;
@@ -40,7 +43,7 @@ fn empty() -> Diagnostic
 }
 
 // Stores a diagnostic at the count, where there is a cell.
-pub fn store(list: &mut [Diagnostic], count: usize, d: Diagnostic)
+fn store(list: &mut [Diagnostic], count: usize, d: Diagnostic)
     ensures { λ _. ⌜ now (list .exit) ≡ stored (now (list .entry)) count d ⌝ }
 {
     if count < list.len() {
@@ -49,7 +52,7 @@ pub fn store(list: &mut [Diagnostic], count: usize, d: Diagnostic)
 }
 
 // Clears all cells.
-pub fn clear(list: &mut [Diagnostic])
+fn clear(list: &mut [Diagnostic])
     ensures { λ _. ⌜ now (list .exit) ≡ blanks (length (now (list .entry))) ⌝ }
 {
     let blank = empty();
@@ -60,20 +63,27 @@ pub fn clear(list: &mut [Diagnostic])
     }
 }
 
+// The form in which a diagnostic is lent.
+fn lent(d: diagnostic::Diagnostic) -> Diagnostic
+    ensures { λ r. ⌜ r ≡ lentOf d ⌝ }
+{
+    let words = words_of(d);
+    Diagnostic {
+        number: words[0],
+        place_kind: words[1],
+        place: words[2],
+        value_kind: words[3],
+        start: words[4],
+        end: words[5],
+    }
+}
+
 // Record i of the scratch words.
 fn record_at(words: &[i32], i: usize) -> Diagnostic
     requires { ⌜ i * diagnosticSize + diagnosticSize ≤ length (now words) ⌝ }
     ensures { λ r. ⌜ r ≡ recordAt (now (words .entry)) i ⌝ }
 {
-    let k = i * DIAGNOSTIC;
-    Diagnostic {
-        number: words[k],
-        place_kind: words[k + 1],
-        place: words[k + 2],
-        value_kind: words[k + 3],
-        start: words[k + 4],
-        end: words[k + 5],
-    }
+    lent(diagnostic_at(words, i))
 }
 
 // Stores the first n records, one after the other, from the list's start.
@@ -98,7 +108,7 @@ fn read_all(
 ) -> Reading
     ensures { λ r. ⌜ Promise (now (text .entry)) (lentWords (now (notes .entry)) (now (bars .entry)) (now (figure .entry)) (length (now (diagnostics .entry)))) r (now (notes .exit)) (now (bars .exit)) (now (figure .exit)) (now (diagnostics .exit)) ⌝ }
 {
-    let mut scratch = [0; DIAGNOSTICS * DIAGNOSTIC];
+    let mut scratch = [0; Pae::MAX_DIAGNOSTICS * DIAGNOSTIC];
     let r = read(text, notes, bars, figure, &mut scratch, diagnostics.len());
     clear(diagnostics);
     publish(&scratch, r.diagnostics as usize, diagnostics);

@@ -14,11 +14,11 @@ use Rattle.rules.specs.Tokens.{Item}
 use Rattle.rules.specs.Records.{parentheses, Diagnostic}
 use Rattle.rules.specs.Rules.{Closing, fermata, tuplet, tooFew, tupletOf, closing}
 use Rattle.rules.specs.Diagnostics.{diagnostic, here, closingDiagnosed}
-use Rattle.values.specs.declared.pae.Counts.{Counts}
-use Rattle.values.specs.declared.pae.Groups.{Groups}
+use Rattle.limits.specs.declared.Counts.{Counts}
+use Rattle.limits.specs.declared.Groups.{Groups}
 use Rattle.records.specs.Cells.{recordAt}
 use Rattle.records.specs.Notes.{HasRoom}
-use Rattle.records.specs.Groups.{timedCount, lastTimed}
+use Rattle.records.specs.Groups.{timedCount, lastNonGrace}
 use Rattle.records.proofs.GroupLaws.{timed-below}
 use Rattle.steps.specs.Relation.{countIn}
 use Rattle.steps.specs.State.{openLength}
@@ -36,13 +36,13 @@ module _ (from count : ℕ) (cells : List ℤ) where
       by false e = ltb-false actual 3 e
 
   -- of so many non-grace records
-  timed-ready : (timed : ℕ) (n : Option ℕ) → timed ≤ count → (closing timed n ≡ fermata → let part = drop (from * noteSize) cells in HasRoom (recordAt noteSize part (lastTimed part count))) → ClosingReady (closing timed n) from count cells
+  timed-ready : (timed : ℕ) (n : Option ℕ) → timed ≤ count → (closing timed n ≡ fermata → let part = drop (from * noteSize) cells in HasRoom (recordAt noteSize part (lastNonGrace part count))) → ClosingReady (closing timed n) from count cells
   timed-ready zero n h room = tt
   timed-ready (suc zero) none h room = (omega arith, room refl)
   timed-ready (suc zero) (some actual) h room = tuplet-ready actual
   timed-ready (suc (suc timed)) n h room = tuplet-ready (Option·getD n 3)
 
-  closing-ready : (n : Option ℕ) → let part = drop (from * noteSize) cells in (closing (timedCount part count) n ≡ fermata → HasRoom (recordAt noteSize part (lastTimed part count))) → ClosingReady (closing (timedCount part count) n) from count cells
+  closing-ready : (n : Option ℕ) → let part = drop (from * noteSize) cells in (closing (timedCount part count) n ≡ fermata → HasRoom (recordAt noteSize part (lastNonGrace part count))) → ClosingReady (closing (timedCount part count) n) from count cells
   closing-ready n room = let h = timed-below (drop (from * noteSize) cells) count in timed-ready (timedCount (drop (from * noteSize) cells) count) n (omega arith) room
 
 pub group-ready : (g : Groups) (c : Counts) (cells : List ℤ) → GroupReady g c cells → g .paren .noted ≡ true → ClosingReady (closingIn g c cells) (recordFrom (g .paren) c) (countFrom (g .paren) c) cells

@@ -18,10 +18,10 @@ use Rattle.rules.specs.Refusals.{refusal, tokensRefusal}
 use Rattle.rules.specs.Words.{diagnosticWords}
 use Rattle.records.proofs.CellLaws.{padded-none}
 use Rattle.values.specs.Rhythm.{Keeping, keptLimit, quarterPattern, firstOf}
-use Rattle.values.specs.Pae.{freshPae}
+use Rattle.limits.specs.Pae.{freshPae}
 use Rattle.values.specs.declared.rhythm.Cursor.{Cursor}
-use Rattle.values.specs.declared.pae.Attributes.{Attributes}
-use Rattle.values.specs.declared.pae.Pae.{Pae}
+use Rattle.limits.specs.declared.Attributes.{Attributes}
+use Rattle.limits.specs.declared.Pae.{Pae}
 use Rattle.decode.specs.declared.Marking.the-variants as m
 use Rattle.decode.specs.declared.Token.{Token}
 use Rattle.decode.specs.declared.Token.the-variants as t

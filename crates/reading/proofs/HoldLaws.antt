@@ -19,15 +19,15 @@ use Rattle.rules.specs.Records.{_or_, given, isEmpty, Diagnostic}
 use Rattle.rules.specs.Rules as rules
 use Rattle.rules.specs.Rules.{step, stateAfter}
 use Rattle.rules.specs.Diagnostics.{tokenDiagnosed, dataDiagnosed}
-use Rattle.rules.specs.Refusals.{Limits, Refusal, refusal, tokenRefusal, tokensRefusal}
+use Rattle.rules.specs.Refusals.{LentRecords, Refusal, refusal, tokenRefusal, tokensRefusal}
 use Rattle.rules.specs.Words.{diagnosticWords}
 use Rattle.text.proofs.PartLaws.{next-element}
 use Rattle.text.proofs.TokenLaws.{token-some, token-within}
 use Rattle.text.proofs.WalkLaws.{tokenAt, items-step, items-end}
 use Rattle.values.specs.Rhythm.{Keeping, Standing}
 use Rattle.values.specs.declared.rhythm.Cursor.{Cursor}
-use Rattle.values.specs.declared.pae.Counts.{Counts}
-use Rattle.values.specs.declared.pae.Pae.{Pae}
+use Rattle.limits.specs.declared.Counts.{Counts}
+use Rattle.limits.specs.declared.Pae.{Pae}
 use Rattle.decode.specs.declared.Figure.the-variants as f
 use Rattle.decode.specs.declared.Marking.the-variants as m
 use Rattle.decode.specs.declared.Token.{Token}
@@ -131,7 +131,7 @@ cells-all (x ∷ xs) ys l n = λ i. diagnosed (cells-all xs ys l n i) (count-all
 
 -- count₀, scratch₀: the diagnostics that were stored before the data
 module _ (data′ : List ℕ) (start : ℕ) (k : rules.Attributes) (count₀ : ℕ) (scratch₀ : List ℤ) (size barsSize figureSize : ℕ) (room : Room) (cells : ℕ) where
-  abbrev lent : Limits
+  abbrev lent : LentRecords
   lent = lentIn room cells
 
   -- before the offset `at` of the data, with the tokens `before` it read and none refused
@@ -141,7 +141,7 @@ module _ (data′ : List ℕ) (start : ℕ) (k : rules.Attributes) (count₀ : �
     pub reads : itemsAfter 0 1 start data′ [] ≡ itemsAfter 0 (at + 1) (start + at) (drop at data′) before
     pub clean : tokensRefusal lent k before ≡ none
     pub related : Related size barsSize (stateAfter k before) st table notes bars held
-    pub rhythm : Standing data′ pattern cursor (stateAfter k before .pattern) (stateAfter k before .taken)
+    pub rhythm : Standing data′ pattern cursor (stateAfter k before .pattern) (stateAfter k before .valuesTaken)
     pub counted : st .diagnostics ≡ countAfterAll count₀ (map diagnosticWords (dataDiagnosed k before))
     pub written : scratch ≡ cellsAfterAll scratch₀ count₀ (map diagnosticWords (dataDiagnosed k before))
     pub few : st .counts .bars ≤ at

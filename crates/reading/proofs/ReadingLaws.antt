@@ -17,14 +17,14 @@ use Rattle.rules.specs.Rules as rules
 use Rattle.rules.specs.Fields.{fieldsOf, fieldsDiagnosed, dataOf}
 use Rattle.rules.specs.Diagnostics.{dataDiagnosed}
 use Rattle.rules.specs.Refusals.{Refusal, refusal, tokenRefusal, tokensRefusal, overBars, endRefusal, dataRefusal, refusalOf}
-use Rattle.rules.specs.Reading.{Lent, limits, attributesOf, tokensOf, diagnosticsOf, Reading, accepted, refused, reading}
+use Rattle.rules.specs.Reading.{Lent, lentRecords, attributesOf, tokensOf, diagnosticsOf, Reading, accepted, refused, reading}
 use Rattle.rules.specs.Words as words
-use Rattle.rules.specs.Words.{zeros, padded, firstOnes}
-use Rattle.theorems.proofs.Demand3.{demand3}
+use Rattle.rules.specs.Words.{zeros, padded, storedDiagnostics}
+use Rattle.theorems.proofs.Demand3.{demand3-of}
 use Rattle.text.specs.Parts.{partAt}
 use Rattle.records.specs.Diagnostics.{heldCells}
-use Rattle.values.specs.declared.pae.Attributes.{Attributes}
-use Rattle.values.specs.declared.pae.Counts.{Counts}
+use Rattle.limits.specs.declared.Attributes.{Attributes}
+use Rattle.limits.specs.declared.Counts.{Counts}
 use Rattle.steps.specs.State.{hasContent, barCounted}
 use Rattle.steps.specs.Bars.{storedBars}
 use Rattle.steps.specs.Relation.{Attributed, Stored, Barred, Diagnosed}
@@ -67,21 +67,21 @@ answer-same en eb es a = rw (← en, ← eb, ← es) a
 -- ---- demand 3
 
 pub promised : {text : List ℕ} {lent : Lent} {size : ℕ} {r : code.Reading} {notes bars figure scratch : List ℤ} → Answered text lent size r notes bars figure scratch → Promised text lent size r notes bars figure scratch
-promised {text} {lent} a = record { answered = a; demand3 = λ e. demand3 text lent (sym (a .number) ∙ e) }
+promised {text} {lent} a = record { answered = a; demand3 = λ e. demand3-of text lent (sym (a .number) ∙ e) (a .noteCount) (a .noteCells) }
 
 -- ---- a refusal
 
 module _ (text : List ℕ) (lent : Lent) where
-  reading-refused : {r : Refusal} → refusalOf text (limits lent) ≡ some r → reading text lent ≡ refused lent r
+  reading-refused : {r : Refusal} → refusalOf text (lentRecords lent) ≡ some r → reading text lent ≡ refused lent r
   unfolding reading
   reading-refused e = ap (λ (o : Option Refusal). given o (accepted text lent) (refused lent)) e
 
-  reading-accepted : refusalOf text (limits lent) ≡ none → reading text lent ≡ accepted text lent
+  reading-accepted : refusalOf text (lentRecords lent) ≡ none → reading text lent ≡ accepted text lent
   unfolding reading
   reading-accepted e = ap (λ (o : Option Refusal). given o (accepted text lent) (refused lent)) e
 
   -- a refusal clears all cells
-  pub answer-refused : (size number place : ℕ) → refusalOf text (limits lent) ≡ some (refusal number place)
+  pub answer-refused : (size number place : ℕ) → refusalOf text (lentRecords lent) ≡ some (refusal number place)
       → Answered text lent size (refusedWith number place) (zeros (lent .notes)) (zeros (lent .bars)) (zeros (lent .figure)) (zeros size)
   answer-refused size number place e =
       let q = sym (reading-refused e) in record {
@@ -97,19 +97,19 @@ module _ (text : List ℕ) (lent : Lent) where
       }
 
   pub refused-by : (size : ℕ) {number place : ℕ} {r : code.Reading} {notes bars figure scratch : List ℤ} → r ≡ refusedWith number place → notes ≡ zeros (lent .notes) → bars ≡ zeros (lent .bars) → figure ≡ zeros (lent .figure) → scratch ≡ zeros size
-      → refusalOf text (limits lent) ≡ some (refusal number place) → Answered text lent size r notes bars figure scratch
+      → refusalOf text (lentRecords lent) ≡ some (refusal number place) → Answered text lent size r notes bars figure scratch
   refused-by size {number} {place} er en eb ef es e = rw (er, en, eb, ef, es) (answer-refused size number place e)
 
   pub answer-by : {size : ℕ} {r r′ : code.Reading} {notes bars bars′ figure figure′ scratch : List ℤ} → r ≡ r′ → bars ≡ bars′ → figure ≡ figure′ → Answered text lent size r′ notes bars′ figure′ scratch → Answered text lent size r notes bars figure scratch
   answer-by er eb ef a = rw (er, eb, ef) a
 
   -- at the entry
-  pub entry-refused : {n : ℕ} → n ≡ entryCheck text (lent .diagnostics) → (n ≡ 0 → ⊥) → refusalOf text (limits lent) ≡ some (refusal n 0)
-  entry-refused e h = refused-whole text (limits lent) (text-refused text (limits lent) (sym e) h)
+  pub entry-refused : {n : ℕ} → n ≡ entryCheck text (lent .diagnostics) → (n ≡ 0 → ⊥) → refusalOf text (lentRecords lent) ≡ some (refusal n 0)
+  entry-refused e h = refused-whole text (lentRecords lent) (text-refused text (lentRecords lent) (sym e) h)
 
   -- without data
-  pub data-missing : {s : Fields} → entryCheck text (lent .diagnostics) ≡ 0 → Taken text (fieldsOf text) s → s .present ≡ false → refusalOf text (limits lent) ≡ some (refusal 5 0)
-  data-missing {s} h t e = refused-whole text (limits lent) (no-data text (limits lent) h (t .dataValue ∙ ap (λ (b : Bool). cond b (some (partAt text (s .start) (s .end))) none) e))
+  pub data-missing : {s : Fields} → entryCheck text (lent .diagnostics) ≡ 0 → Taken text (fieldsOf text) s → s .present ≡ false → refusalOf text (lentRecords lent) ≡ some (refusal 5 0)
+  data-missing {s} h t e = refused-whole text (lentRecords lent) (no-data text (lentRecords lent) h (t .dataValue ∙ ap (λ (b : Bool). cond b (some (partAt text (s .start) (s .end))) none) e))
 
 -- ---- what the walk's refusal says
 
@@ -151,7 +151,7 @@ counted-bars c = go (hasContent c)
     go false = omega arith
 
 -- at most 1,024 diagnostics are stored
-pub few-first : (ds : List Diagnostic) → length (firstOnes ds) ≤ diagnosticLimit
+pub few-first : (ds : List Diagnostic) → length (storedDiagnostics ds) ≤ diagnosticLimit
 few-first ds = rw length-drop (omega arith)
 
 pub few-diagnosed : {bytes : List ℕ} {start n size barsSize scratchSize : ℕ} {a : Attributes} {scratch₀ notes bars scratch : List ℤ} {room : Room} {r : Outcome} {ds : List Diagnostic} → Diagnosed scratchSize ds n scratch₀
@@ -204,18 +204,18 @@ module _ (text : List ℕ) (notesSize barsSize figureSize size : ℕ) (s : Field
   diagnostics-taken = λ i. dataDiagnosed (k-taken i) (itemsOf (part-taken i)) ++ fieldsDiagnosed text
 
   module _ (cells : ℕ) (entered : entryCheck text cells ≡ 0) where
-    whole : refusalOf text (limits (lentAll cells)) ≡ tokensRefusal (walk.lent room) k (itemsOf part) or endRefusal (limits (lentAll cells)) (length (part .bytes)) endState
+    whole : refusalOf text (lentRecords (lentAll cells)) ≡ tokensRefusal (walk.lent room) k (itemsOf part) or endRefusal (lentRecords (lentAll cells)) (length (part .bytes)) endState
     whole =
-        data-left text (limits (lentAll cells)) (text-passes text (limits (lentAll cells)) entered value-taken)
-        ∙ (λ i. dataRefusal (limits (lentAll cells)) (k-taken i) (part-taken i))
-        ∙ ap (λ (o : Option Refusal). o or endRefusal (limits (lentAll cells)) (length (part .bytes)) endState) (tokens-same room cells k (itemsOf part))
+        data-left text (lentRecords (lentAll cells)) (text-passes text (lentRecords (lentAll cells)) entered value-taken)
+        ∙ (λ i. dataRefusal (lentRecords (lentAll cells)) (k-taken i) (part-taken i))
+        ∙ ap (λ (o : Option Refusal). o or endRefusal (lentRecords (lentAll cells)) (length (part .bytes)) endState) (tokens-same room cells k (itemsOf part))
 
     module _ {n : ℕ} {scratch₀ notes bars scratch : List ℤ} {r : Outcome} (d : DataRead (part .bytes) (s .start) (s .attributes) n scratch₀ notesSize barsSize room r notes bars scratch) where
       -- at a token
-      pub token-refused : (r .number ≡ 0 → ⊥) → refusalOf text (limits (lentAll cells)) ≡ some (refusal (r .number) (r .place))
+      pub token-refused : (r .number ≡ 0 → ⊥) → refusalOf text (lentRecords (lentAll cells)) ≡ some (refusal (r .number) (r .place))
       token-refused h =
           whole
-          ∙ ap (λ (o : Option Refusal). o or endRefusal (limits (lentAll cells)) (length (part .bytes)) endState) (d .stops ∙ ap (λ (b : Bool). cond b none (some (refusal (r .number) (r .place)))) (ne-eqb (r .number) 0 h))
+          ∙ ap (λ (o : Option Refusal). o or endRefusal (lentRecords (lentAll cells)) (length (part .bytes)) endState) (d .stops ∙ ap (λ (b : Bool). cond b none (some (refusal (r .number) (r .place)))) (ne-eqb (r .number) 0 h))
 
       module _ (h : r .number ≡ 0) where
         abbrev counts : Counts
@@ -224,12 +224,12 @@ module _ (text : List ℕ) (notesSize barsSize figureSize size : ℕ) (s : Field
         held : Stored notesSize (endState .openBar) (endState .bars) counts notes
         held = d .finished h .stored
 
-        end-left : refusalOf text (limits (lentAll cells)) ≡ endRefusal (limits (lentAll cells)) (length (part .bytes)) endState
+        end-left : refusalOf text (lentRecords (lentAll cells)) ≡ endRefusal (lentRecords (lentAll cells)) (length (part .bytes)) endState
         end-left =
             whole
-            ∙ ap (λ (o : Option Refusal). o or endRefusal (limits (lentAll cells)) (length (part .bytes)) endState) (d .stops ∙ ap (λ (b : Bool). cond b none (some (refusal (r .number) (r .place)))) (eq-eqb (r .number) 0 h))
+            ∙ ap (λ (o : Option Refusal). o or endRefusal (lentRecords (lentAll cells)) (length (part .bytes)) endState) (d .stops ∙ ap (λ (b : Bool). cond b none (some (refusal (r .number) (r .place)))) (eq-eqb (r .number) 0 h))
 
-        over-agrees : overBars (limits (lentAll cells)) endState ≡ hasContent counts && leb (room .bars) (counts .bars)
+        over-agrees : overBars (lentRecords (lentAll cells)) endState ≡ hasContent counts && leb (room .bars) (counts .bars)
         over-agrees = bars-agree room cells endState held
 
         none-agrees : isEmpty (rules.stored endState) ≡ eqb (counts .notes) 0
@@ -239,11 +239,11 @@ module _ (text : List ℕ) (notesSize barsSize figureSize size : ℕ) (s : Field
         abbrev byTests : Bool → Bool → Option Refusal
         byTests over empty = cond over (some (refusal 12 (length (part .bytes) + 1))) (cond empty (some (refusal 13 0)) none)
 
-        by-tests : {a b : Bool} → hasContent counts && leb (room .bars) (counts .bars) ≡ a → eqb (counts .notes) 0 ≡ b → refusalOf text (limits (lentAll cells)) ≡ byTests a b
+        by-tests : {a b : Bool} → hasContent counts && leb (room .bars) (counts .bars) ≡ a → eqb (counts .notes) 0 ≡ b → refusalOf text (lentRecords (lentAll cells)) ≡ byTests a b
         by-tests p q = end-left ∙ (λ i. byTests ((over-agrees ∙ p) i) ((none-agrees ∙ q) i))
 
         -- 12 or 13 at the end
-        pub end-refused : {k : Stop} → k ≡ endCheck counts (room .bars) (length (part .bytes)) → (k .number ≡ 0 → ⊥) → refusalOf text (limits (lentAll cells)) ≡ some (refusal (k .number) (k .place))
+        pub end-refused : {k : Stop} → k ≡ endCheck counts (room .bars) (length (part .bytes)) → (k .number ≡ 0 → ⊥) → refusalOf text (lentRecords (lentAll cells)) ≡ some (refusal (k .number) (k .place))
         end-refused {k} is z = by-tests refl refl ∙ go (hasContent counts && leb (room .bars) (counts .bars)) (eqb (counts .notes) 0) is
           where
             go : (over empty : Bool) → k ≡ cond over (record { number = 12; place = length (part .bytes) + 1 }) (cond empty (record { number = 13; place = 0 }) (record { number = 0; place = 0 })) → byTests over empty ≡ some (refusal (k .number) (k .place))
@@ -252,7 +252,7 @@ module _ (text : List ℕ) (notesSize barsSize figureSize size : ℕ) (s : Field
             go false false e = absurd (z (ap (λ (x : Stop). x .number) e))
 
         module _ (fits : barCheck counts (room .bars) ≡ 0) where
-          none-fails : (counts .notes ≡ 0 → ⊥) → refusalOf text (limits (lentAll cells)) ≡ none
+          none-fails : (counts .notes ≡ 0 → ⊥) → refusalOf text (lentRecords (lentAll cells)) ≡ none
           none-fails e = by-tests (bar-passes (hasContent counts && leb (room .bars) (counts .bars)) fits) (ne-eqb (counts .notes) 0 e)
 
           module _ (e : counts .notes ≡ 0 → ⊥) (diagnosed : Diagnosed size (fieldsDiagnosed text) n scratch₀) where
@@ -260,10 +260,10 @@ module _ (text : List ℕ) (notesSize barsSize figureSize size : ℕ) (s : Field
             done = d .finished h
 
             closed : Stored notesSize [] (rules.barsAtEnd endState) (barCounted counts) notes
-            closed = bar-stored endState 0 (endState .openBar) held
+            closed = bar-stored endState 0 held
 
             barred : Barred barsSize (rules.barsAtEnd endState) (storedBars counts (r .st .attributes) 0 bars)
-            barred = bars-closed endState 0 (done .attributes) (endState .openBar) held (done .barred) (λ filled. rw (← held .bars) (omega (arith, bars-ready barsSize counts (room .bars) lends-bars filled fits)))
+            barred = bars-closed endState 0 (done .attributes) held (done .barred) (λ filled. rw (← held .bars) (omega (arith, bars-ready barsSize counts (room .bars) lends-bars filled fits)))
               where
                 lends-bars : barsSize / barSize * barSize ≤ barsSize
                 lends-bars = omega arith

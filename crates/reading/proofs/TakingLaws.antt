@@ -11,7 +11,7 @@ use Rattle.rules.specs.Rules as rules
 use Rattle.rules.specs.Rules.{step}
 use Rattle.values.specs.Rhythm.{Keeping, valueAt, lengthIn, staying, Standing}
 use Rattle.values.specs.declared.rhythm.Cursor.{Cursor}
-use Rattle.values.specs.declared.pae.Pae.{Pae}
+use Rattle.limits.specs.declared.Pae.{Pae}
 use Rattle.decode.specs.declared.Token.{Token}
 use Rattle.decode.specs.declared.Token.the-variants as t
 use Rattle.decode.specs.Decode.{tokenIn}
@@ -24,9 +24,9 @@ use Rattle.simulation.proofs.RhythmLaws.{digit-first, is-grace, duration-stands
 use Rattle.reading.specs.Cells.{notesNext}
 use Rattle.reading.specs.Rhythm.{takenNext, patternNext, cursorNext}
 
-module _ (place offset width b : ℕ) (value text : List ℕ) (s : rules.State) (st : Pae) {k : Keeping} {c : Cursor} (w : Standing text k c (s .pattern) (s .taken)) (v : Voiced (st .voice) s) (joined : Bool) (joins : rules.joins s ≡ joined) where
+module _ (place offset width b : ℕ) (value text : List ℕ) (s : rules.State) (st : Pae) {k : Keeping} {c : Cursor} (w : Standing text k c (s .pattern) (s .valuesTaken)) (v : Voiced (st .voice) s) (joined : Bool) (joins : rules.joins s ≡ joined) where
   abbrev Stands : Token → Keeping → Cursor → Type 0
-  Stands token k′ c′ = Standing text k′ c′ (step (itemIn place offset width b value token) s .pattern) (step (itemIn place offset width b value token) s .taken)
+  Stands token k′ c′ = Standing text k′ c′ (step (itemIn place offset width b value token) s .pattern) (step (itemIn place offset width b value token) s .valuesTaken)
 
   letter-stands : (name : ℕ) → Stands (t.Letter name) k (takenNext (t.Letter name) joined (st .voice) text k c .next)
   unfolding takenNext

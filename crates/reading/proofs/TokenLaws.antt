@@ -8,7 +8,7 @@ use Rattle.rules.specs.Limits.{noteSize, barSize, noteLimit, pitchCapacity}
 use Rattle.rules.specs.Values.{Length}
 use Rattle.rules.specs.Rules as rules
 use Rattle.rules.specs.Rules.{step}
-use Rattle.values.specs.declared.pae.Pae.{Pae}
+use Rattle.limits.specs.declared.Pae.{Pae}
 use Rattle.decode.specs.declared.Figure.{Figure}
 use Rattle.decode.specs.declared.Figure.the-variants as f
 use Rattle.decode.specs.declared.Marking.{Marking}
@@ -151,7 +151,7 @@ module _ (place offset width b : ℕ) (value : List ℕ) {size barsSize : ℕ} {
   barred-agrees (t.Letter name) q = w .barred
   barred-agrees t.Chord q = w .barred
   barred-agrees t.Rest q = w .barred
-  barred-agrees (t.Barline barline) q = bars-closed s (barline .right) (w .attributes) (s .openBar) (w .stored) (w .barred) (λ e. subst (λ (n : ℕ). n * barSize + barSize ≤ barsSize) (w .stored .bars) (q e))
+  barred-agrees (t.Barline barline) q = bars-closed s (barline .right) (w .attributes) (w .stored) (w .barred) (λ e. subst (λ (n : ℕ). n * barSize + barSize ≤ barsSize) (w .stored .bars) (q e))
   barred-agrees (t.Grace slashed) q = w .barred
   barred-agrees (t.GraceGroup begins) q = w .barred
   barred-agrees (t.Figure figure) q = w .barred

@@ -10,10 +10,10 @@ use Rattle.rules.specs.Records.{given}
 use Rattle.rules.specs.Fields.{fieldsOf, fieldsDiagnosed}
 use Rattle.rules.specs.Refusals.{refusalOf}
 use Rattle.rules.specs.Agreement.{Demand3}
-use Rattle.rules.specs.Reading.{Lent, limits, diagnosticsOf, reading}
+use Rattle.rules.specs.Reading.{Lent, lentRecords, diagnosticsOf, reading}
 use Rattle.rules.specs.Words.{zeros}
 use Rattle.records.specs.Diagnostics.{heldCells}
-use Rattle.values.specs.declared.pae.Pae.{Pae}
+use Rattle.limits.specs.declared.Pae.{Pae}
 use Rattle.steps.specs.State.{barCounted}
 use Rattle.steps.specs.Relation.{Diagnosed}
 use Rattle.checks.specs.declared.Room.{Room}
@@ -32,7 +32,7 @@ roomIn notes bars figure = record { notes = notes / noteSize; bars = bars / barS
 
 -- the words of the diagnostics that find room, all 0 after a refusal
 abbrev pub scratchCells : List ℕ → Lent → ℕ → List ℤ
-scratchCells text lent size = given (refusalOf text (limits lent)) (heldCells size (diagnosticsOf text)) (λ r. zeros size)
+scratchCells text lent size = given (refusalOf text (lentRecords lent)) (heldCells size (diagnosticsOf text)) (λ r. zeros size)
 
 -- the rules' answer, in numbers and in cells
 pub record Answered (text : List ℕ) (lent : Lent) (size : ℕ) (r : Reading) (notes bars figure scratch : List ℤ) : Type 0 where
@@ -49,7 +49,7 @@ pub record Answered (text : List ℕ) (lent : Lent) (size : ℕ) (r : Reading) (
 -- the answer, and demand 3 of an accepted one
 pub record Promised (text : List ℕ) (lent : Lent) (size : ℕ) (r : Reading) (notes bars figure scratch : List ℤ) : Type 0 where
   pub answered : Answered text lent size r notes bars figure scratch
-  pub demand3 : r .number ≡ 0 → Demand3 text (reading text lent) lent
+  pub demand3 : r .number ≡ 0 → Demand3 text (r .notes) notes
 
 -- a refusal's numbers: counts are 0
 abbrev pub refusedWith : ℕ → ℕ → Reading

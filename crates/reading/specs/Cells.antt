@@ -11,10 +11,10 @@ use Rattle.rules.specs.Rules.{Closing, closing}
 use Rattle.records.specs.Cells.{written}
 use Rattle.records.specs.Copies.{copies}
 use Rattle.records.specs.Groups.{timedCount, beamed, onPart}
-use Rattle.values.specs.declared.pae.Counts.{Counts}
-use Rattle.values.specs.declared.pae.Start.{Start}
-use Rattle.values.specs.declared.pae.Groups.{Groups}
-use Rattle.values.specs.declared.pae.Pae.{Pae}
+use Rattle.limits.specs.declared.Counts.{Counts}
+use Rattle.limits.specs.declared.Start.{Start}
+use Rattle.limits.specs.declared.Groups.{Groups}
+use Rattle.limits.specs.declared.Pae.{Pae}
 use Rattle.decode.specs.declared.Figure.{Figure}
 use Rattle.decode.specs.declared.Figure.the-variants as f
 use Rattle.decode.specs.declared.Marking.{Marking}

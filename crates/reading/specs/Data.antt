@@ -11,12 +11,12 @@ use Rattle.rules.specs.Limits.{textLimit, noteSize, barSize}
 use Rattle.rules.specs.Tokens.{Item, itemsAfter}
 use Rattle.rules.specs.Rules as rules
 use Rattle.rules.specs.Diagnostics.{dataDiagnosed}
-use Rattle.rules.specs.Refusals.{Limits, refusal, tokensRefusal}
+use Rattle.rules.specs.Refusals.{LentRecords, refusal, tokensRefusal}
 use Rattle.rules.specs.Words.{zeros, diagnosticWords}
 use Rattle.records.specs.Cells.{wordLimit}
-use Rattle.values.specs.Pae.{freshPae}
-use Rattle.values.specs.declared.pae.Attributes.{Attributes}
-use Rattle.values.specs.declared.pae.Pae.{Pae}
+use Rattle.limits.specs.Pae.{freshPae}
+use Rattle.limits.specs.declared.Attributes.{Attributes}
+use Rattle.limits.specs.declared.Pae.{Pae}
 use Rattle.steps.specs.Relation.{numberIn, fifthsIn, meterIn, Attributed, Stored, Barred}
 use Rattle.checks.specs.declared.Room.{Room}
 use Rattle.diagnose.specs.Found.{countAfterAll, cellsAfterAll}
@@ -31,7 +31,7 @@ abbrev pub begun : Attributes → ℕ → Pae
 begun a n = record { attributes = a; voice = freshPae .voice; counts = freshPae .counts; groups = freshPae .groups; figure = freshPae .figure; diagnostics = n }
 
 -- the lent records as the rules have them
-abbrev pub lent : Room → Limits
+abbrev pub lent : Room → LentRecords
 lent room = record { notes = room .notes; bars = room .bars; figure = room .figure; diagnostics = 0 }
 
 -- cleared cells, enough of them, and data that is not too long

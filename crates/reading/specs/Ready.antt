@@ -9,11 +9,11 @@ use Rattle.rules.specs.Limits.{noteLimit, noteSize, barSize, pitchCapacity}
 use Rattle.rules.specs.Rules.{Closing, nothing, fermata, tuplet, tooFew}
 use Rattle.records.specs.Cells.{wordLimit, recordAt}
 use Rattle.records.specs.Notes.{pitchCountAt, HasRoom}
-use Rattle.records.specs.Groups.{lastTimed}
+use Rattle.records.specs.Groups.{lastNonGrace}
 use Rattle.rules.specs.Words.{zeros}
-use Rattle.values.specs.declared.pae.Counts.{Counts}
-use Rattle.values.specs.declared.pae.Groups.{Groups}
-use Rattle.values.specs.declared.pae.Pae.{Pae}
+use Rattle.limits.specs.declared.Counts.{Counts}
+use Rattle.limits.specs.declared.Groups.{Groups}
+use Rattle.limits.specs.declared.Pae.{Pae}
 use Rattle.decode.specs.declared.Figure.{Figure}
 use Rattle.decode.specs.declared.Figure.the-variants as f
 use Rattle.decode.specs.declared.Marking.{Marking}
@@ -59,14 +59,14 @@ pub record FigureReady (g : Groups) (c : Counts) (cells held : List ℤ) : Type 
 -- what a closing asks of `count` records from record `from` on: a fermata finds room for a mark, a tuplet has three or more
 abbrev pub ClosingReady : Closing → ℕ → ℕ → List ℤ → Type 0
 ClosingReady nothing from count cells = Unit {0}
-ClosingReady fermata from count cells = (0 < count) × (let part = drop (from * noteSize) cells in HasRoom (recordAt noteSize part (lastTimed part count)))
+ClosingReady fermata from count cells = (0 < count) × (let part = drop (from * noteSize) cells in HasRoom (recordAt noteSize part (lastNonGrace part count)))
 ClosingReady (tuplet actual) from count cells = 3 ≤ actual
 ClosingReady (tooFew actual) from count cells = Unit {0}
 
 -- a group that closes to a fermata finds room for a mark
 pub record GroupReady (g : Groups) (c : Counts) (cells : List ℤ) : Type 0 where
   pub within : Within c cells
-  pub room : g .paren .noted ≡ true → closingIn g c cells ≡ fermata → let part = drop (recordFrom (g .paren) c * noteSize) cells in HasRoom (recordAt noteSize part (lastTimed part (countFrom (g .paren) c)))
+  pub room : g .paren .noted ≡ true → closingIn g c cells ≡ fermata → let part = drop (recordFrom (g .paren) c * noteSize) cells in HasRoom (recordAt noteSize part (lastNonGrace part (countFrom (g .paren) c)))
 
 -- a trill finds room for a mark
 pub record TrillReady (c : Counts) (cells : List ℤ) : Type 0 where

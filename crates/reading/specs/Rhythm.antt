@@ -4,7 +4,7 @@ use mathlib.Core.Bool.{Bool, cond}
 use mathlib.Core.List.{List}
 use Rattle.rules.specs.Values.{quarter}
 use Rattle.values.specs.Rhythm.{Keeping, lengthIn, staying, valueAt, patternAt, firstOf}
-use Rattle.values.specs.declared.pae.Voice.{Voice}
+use Rattle.limits.specs.declared.Voice.{Voice}
 use Rattle.values.specs.declared.rhythm.Cursor.{Cursor}
 use Rattle.values.specs.declared.rhythm.Pattern.{Pattern}
 use Rattle.values.specs.declared.rhythm.Value.{Value}

@@ -6,7 +6,7 @@ use lib.IntN.{ℤ}
 use Rattle.rules.specs.Rules.{Closing, nothing}
 use Rattle.rules.specs.Words.{diagnosticWords}
 use Rattle.values.specs.Rhythm.{Keeping, lengthIn}
-use Rattle.values.specs.declared.pae.Pae.{Pae}
+use Rattle.limits.specs.declared.Pae.{Pae}
 use Rattle.values.specs.declared.rhythm.Cursor.{Cursor}
 use Rattle.decode.specs.declared.Marking.{Marking}
 use Rattle.decode.specs.declared.Marking.the-variants as m

@@ -29,7 +29,8 @@ use decode::Marking;
 use decode::Token;
 use decode::decode;
 use diagnose::store_found;
-use records::Place;
+use limits::Attributes;
+use limits::Pae;
 use remarks::Span;
 use remarks::clef_remarks;
 use remarks::count_found;
@@ -53,8 +54,6 @@ use text::token_end;
 use values::attributes::clef_of;
 use values::attributes::key_of;
 use values::attributes::meter_of;
-use values::pae::Attributes;
-use values::pae::Pae;
 use values::rhythm::KEPT;
 use values::rhythm::Octave;
 use values::rhythm::Pattern;
@@ -78,11 +77,11 @@ fn begin(attributes: Attributes, diagnostics: usize) -> Pae
 
 // A check fails at a token: the walk stops at its place.
 fn stopped(number: u8, span: Span, st: Pae) -> Outcome
-    ensures { λ r. ⌜ r ≡ record { number = number; place = span .place; st = st } ⌝ }
+    ensures { λ r. ⌜ r ≡ record { number = number; place = span .place .0; st = st } ⌝ }
 {
     Outcome {
         number,
-        place: span.place,
+        place: span.place.0,
         st,
     }
 }
@@ -190,7 +189,7 @@ pub fn read_data(
                     value,
                     step,
                     alter,
-                    Place(span.place),
+                    span.place,
                 );
                 let voice = st.voice;
                 let entry = entry_after(here, voice.accidental);
@@ -212,13 +211,7 @@ pub fn read_data(
                     return stopped(stop, span, st);
                 }
                 let value = pattern.value_at(data, &kept, cursor);
-                notes::rest(
-                    notes,
-                    st.counts,
-                    value.duration,
-                    value.dots,
-                    Place(span.place),
-                );
+                notes::rest(notes, st.counts, value.duration, value.dots, span.place);
                 st.voice.tie = false;
                 st.counts = state::counted(st.counts, 1);
                 cursor = value.next;
@@ -271,7 +264,7 @@ pub fn read_data(
                     }
                     let found = unless(st.figure != 0, 18, span);
                     st.diagnostics = store_found(scratch, st.diagnostics, found);
-                    figure_repeat(st.figure, st.counts, notes, figure, Place(span.place));
+                    figure_repeat(st.figure, st.counts, notes, figure, span.place);
                     st.counts = state::counted(st.counts, st.figure);
                     continue;
                 }
@@ -284,7 +277,7 @@ pub fn read_data(
                     let content = state::has_content(st.counts);
                     let found = unless((!content) & (st.counts.bars != 0), 19, span);
                     st.diagnostics = store_found(scratch, st.diagnostics, found);
-                    bar_repeat(copied, st.counts, notes, Place(span.place));
+                    bar_repeat(copied, st.counts, notes, span.place);
                     st.counts = state::counted(st.counts, copied);
                     continue;
                 }

@@ -14,12 +14,12 @@ use checks::check_end;
 use entry::entry_check;
 use fields::Fields;
 use fields::fields_of;
+use limits::Pae;
 use records::cells::BAR;
 use records::cells::NOTE;
 use records::cells::clear;
 use steps::bars::store_bar;
 use steps::state::bar_counted;
-use values::pae::Pae;
 
 // The number of the refusal, 0 where the text is read, with its place; how many notes, bars and diagnostics are stored.
 #[repr(C)]

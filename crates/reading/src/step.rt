@@ -12,6 +12,10 @@ ghost use Rattle.steps.specs.State.{letterJoined, letterOpened, hasContent, cle
 ghost use Rattle.steps.specs.Notes.{joinedCells, openedCells, tiedCells, trilledCells, closedCells};
 ghost use Rattle.reading.specs.Cells.{figureCopied, barCopied, figureTaken, beamCells, closingIn, groupCells};
 ghost use Rattle.reading.specs.Ready.{Within, PlaceReady, LetterReady, FigureReady, ClosingReady, GroupReady, TrillReady};
+use limits::Attributes;
+use limits::Counts;
+use limits::Groups;
+use limits::Voice;
 use records::Place;
 use records::copy::repeat_bar;
 use records::copy::repeat_figure;
@@ -25,10 +29,6 @@ use steps::state;
 use values::attributes::ClefValue;
 use values::attributes::Key;
 use values::attributes::Meter;
-use values::pae::Attributes;
-use values::pae::Counts;
-use values::pae::Groups;
-use values::pae::Voice;
 use values::rhythm::Value;
 use values::rhythm::normal_of;
 

@@ -9,13 +9,13 @@ use Rattle.rules.specs.Limits.{barSize}
 use Rattle.rules.specs.Values.{Meter}
 use Rattle.rules.specs.Records as rules
 use Rattle.rules.specs.Records.{notesOf}
-use Rattle.rules.specs.Words.{padded, Placed, placed, keyWords, meterWords, barWords, barCells}
+use Rattle.rules.specs.Words.{padded, BarFrom, barsFrom, keyWords, meterWords, barWords, barCells}
 use Rattle.records.specs.declared.bar.Bar.{Bar}
 use Rattle.records.specs.Cells.{withRecord}
 use Rattle.records.specs.Bars.{barNumbers}
 use Rattle.records.proofs.CellLaws.{padded-added}
 
-pub length-bar : (p : Placed) → length (barWords p) ≡ barSize
+pub length-bar : (p : BarFrom) → length (barWords p) ≡ barSize
 length-bar p = go (p .bar .fifths) (p .bar .meter)
   where
     go : (k : Option ℤ) (m : Option Meter) → length (pos (p .first) ∷ pos (length (p .bar .notes)) ∷ pos (Option·getD (p .bar .clef) 0) ∷ keyWords k ++ meterWords m ++ pos (p .bar .left) ∷ pos (p .bar .right) ∷ []) ≡ barSize
@@ -25,7 +25,7 @@ length-bar p = go (p .bar .fifths) (p .bar .meter)
     go (some k) (some m) = refl
 
 -- the numbers of b say the bar p
-pub record Says (b : Bar) (p : Placed) : Type 0 where
+pub record Says (b : Bar) (p : BarFrom) : Type 0 where
   pub first : b .first ≡ p .first
   pub count : b .count ≡ length (p .bar .notes)
   pub clef : b .clef ≡ Option·getD (p .bar .clef) 0
@@ -34,7 +34,7 @@ pub record Says (b : Bar) (p : Placed) : Type 0 where
   pub left : b .left ≡ p .bar .left
   pub right : b .right ≡ p .bar .right
 
-pub bar-words : (b : Bar) (p : Placed) → Says b p → barNumbers b ≡ barWords p
+pub bar-words : (b : Bar) (p : BarFrom) → Says b p → barNumbers b ≡ barWords p
 bar-words b p s = λ i.
     pos (s .first i) ∷ pos (s .count i) ∷ pos (s .clef i) ∷ s .key i ++ s .meter i ++ pos (s .left i) ∷ pos (s .right i) ∷ []
 
@@ -42,9 +42,9 @@ bar-words b p s = λ i.
 pub bar-stored : (n : ℕ) (b : Bar) (bar : rules.Bar) (bars : List rules.Bar) → Says b (record { first = length (notesOf bars); bar = bar }) → length bars * barSize + barSize ≤ n
     → withRecord barSize (padded n (barCells bars)) (length bars) (barNumbers b) ≡ padded n (barCells (bar ∷ bars))
 bar-stored n b bar bars s h =
-    rw (bar-words b (record { first = length (notesOf bars); bar = bar }) s, ← length-placed bars)
-    (padded-added barWords barSize length-bar n (record { first = length (notesOf bars); bar = bar }) (placed bars) (rw (length-placed bars) h))
+    rw (bar-words b (record { first = length (notesOf bars); bar = bar }) s, ← length-barsFrom bars)
+    (padded-added barWords barSize length-bar n (record { first = length (notesOf bars); bar = bar }) (barsFrom bars) (rw (length-barsFrom bars) h))
   where
-    length-placed : (bars : List rules.Bar) → length (placed bars) ≡ length bars
-    length-placed [] = refl
-    length-placed (c ∷ bars) = ap suc (length-placed bars)
+    length-barsFrom : (bars : List rules.Bar) → length (barsFrom bars) ≡ length bars
+    length-barsFrom [] = refl
+    length-barsFrom (c ∷ bars) = ap suc (length-barsFrom bars)

@@ -10,7 +10,7 @@ use lib.ListN.{length, drop, length-append, length-drop, length-replicate}
 use borrow.Author.Tests.{ltb-true, ltb-false, leb-true, leb-false, lt-ltb, le-leb}
 use Rattle.rules.specs.Limits.{diagnosticLimit, diagnosticSize}
 use Rattle.rules.specs.Records.{Position, atLine, atField, atData, Value, textPart, parentheses, number, Diagnostic}
-use Rattle.rules.specs.Words.{cells, padded, diagnosticWords, firstOnes, diagnosticCells}
+use Rattle.rules.specs.Words.{cells, padded, diagnosticWords, storedDiagnostics, diagnosticCells}
 use Rattle.records.specs.Cells.{withRecord}
 use Rattle.records.specs.Diagnostics.{countAfter, diagnosed, heldLimit, heldCells}
 use Rattle.records.proofs.CellLaws.{length-cells, padded-added}
@@ -74,10 +74,10 @@ module _ (limit : ℕ) (d : Diagnostic) (ds : List Diagnostic) where
   full h = rw (length-drop (length ds - limit) ds) (omega arith)
 
 module _ (d : Diagnostic) (ds : List Diagnostic) where
-  pub diagnostic-count : countAfter (length (firstOnes ds)) ≡ length (firstOnes (d ∷ ds))
+  pub diagnostic-count : countAfter (length (storedDiagnostics ds)) ≡ length (storedDiagnostics (d ∷ ds))
   diagnostic-count = go (ltb (length ds) diagnosticLimit) refl
     where
-      go : (b : Bool) → ltb (length ds) diagnosticLimit ≡ b → countAfter (length (firstOnes ds)) ≡ length (firstOnes (d ∷ ds))
+      go : (b : Bool) → ltb (length ds) diagnosticLimit ≡ b → countAfter (length (storedDiagnostics ds)) ≡ length (storedDiagnostics (d ∷ ds))
       go true e = let h = ltb-true (length ds) diagnosticLimit e in rw (one-more diagnosticLimit d ds h, all-stored diagnosticLimit d ds (omega arith), e) (omega arith)
       go false e = let h = ltb-false (length ds) diagnosticLimit e in rw (dropped diagnosticLimit d ds h, full diagnosticLimit d ds h)
 
@@ -87,10 +87,10 @@ module _ (d : Diagnostic) (ds : List Diagnostic) where
         let few : length (drop (length ds - heldLimit size) ds) * diagnosticSize ≤ size = rw (length-drop (length ds - heldLimit size) ds) (omega (arith, held-few size .1)) in
         rw (length-append, length-replicate) (omega (arith, length-cells diagnosticWords diagnosticSize length-diagnostic (drop (length ds - heldLimit size) ds)))
 
-    pub diagnostic-stored : diagnosed (heldCells size ds) (length (firstOnes ds)) (diagnosticWords d) ≡ heldCells size (d ∷ ds)
+    pub diagnostic-stored : diagnosed (heldCells size ds) (length (storedDiagnostics ds)) (diagnosticWords d) ≡ heldCells size (d ∷ ds)
     diagnostic-stored = go (ltb (length ds) (heldLimit size)) refl
       where
-        go : (b : Bool) → ltb (length ds) (heldLimit size) ≡ b → diagnosed (heldCells size ds) (length (firstOnes ds)) (diagnosticWords d) ≡ heldCells size (d ∷ ds)
+        go : (b : Bool) → ltb (length ds) (heldLimit size) ≡ b → diagnosed (heldCells size ds) (length (storedDiagnostics ds)) (diagnosticWords d) ≡ heldCells size (d ∷ ds)
         go true e =
             let h = ltb-true (length ds) (heldLimit size) e in
             let few = held-few size in
@@ -101,14 +101,14 @@ module _ (d : Diagnostic) (ds : List Diagnostic) where
             rw (one-more (heldLimit size) d ds h, all-stored diagnosticLimit d ds (omega (arith, below)), lt-ltb (length ds) diagnosticLimit below, test, all) (padded-added diagnosticWords diagnosticSize length-diagnostic size d ds room)
         go false e =
             let h = ltb-false (length ds) (heldLimit size) e in
-            let count : heldLimit size ≤ length (firstOnes ds) = rw (length-drop (length ds - diagnosticLimit) ds) (omega (arith, h, held-few size .0)) in
-            rw (dropped (heldLimit size) d ds h) (stays size (length (firstOnes ds)) (heldCells size ds) (diagnosticWords d) length-held count)
+            let count : heldLimit size ≤ length (storedDiagnostics ds) = rw (length-drop (length ds - diagnosticLimit) ds) (omega (arith, h, held-few size .0)) in
+            rw (dropped (heldLimit size) d ds h) (stays size (length (storedDiagnostics ds)) (heldCells size ds) (diagnosticWords d) length-held count)
 
 -- where all find room, all stand in the cells
-pub held-all : (ds : List Diagnostic) (size : ℕ) → length (firstOnes ds) * diagnosticSize ≤ size → heldCells size ds ≡ padded size (diagnosticCells ds)
+pub held-all : (ds : List Diagnostic) (size : ℕ) → length (storedDiagnostics ds) * diagnosticSize ≤ size → heldCells size ds ≡ padded size (diagnosticCells ds)
 held-all ds size h = ap (λ (k : ℕ). padded size (cells diagnosticWords (drop k ds))) (go (leb diagnosticLimit (size / diagnosticSize)) refl)
   where
-    many : length (firstOnes ds) ≡ length ds - (length ds - diagnosticLimit)
+    many : length (storedDiagnostics ds) ≡ length ds - (length ds - diagnosticLimit)
     many = length-drop (length ds - diagnosticLimit) ds
 
     go : (b : Bool) → leb diagnosticLimit (size / diagnosticSize) ≡ b → length ds - cond b diagnosticLimit (size / diagnosticSize) ≡ length ds - diagnosticLimit

@@ -11,28 +11,28 @@ use lib.Seq.{take-at, take-nil, drop-nil, take-append-add}
 use lib.Dec.{eqb, ltb}
 use borrow.Author.Tests.{eq-eqb, ne-eqb, lt-ltb, le-ltb, ltb-true, ltb-false}
 use Rattle.rules.specs.Records.{Notations, Note}
-use Rattle.rules.specs.Rules.{State, Group, isTimed, timedIn, notesFrom, withBeam, closing, closed, closingOf, fermata, tuplet, tooFew, groupClosed, beamClosed, renotated}
+use Rattle.rules.specs.Rules.{State, Group, isNonGrace, nonGraceIn, notesFrom, withBeam, closing, closed, closingOf, fermata, tuplet, tooFew, groupClosed, beamClosed, withNotations}
 use Rattle.records.specs.Groups.{beamNumber}
 use Rattle.records.proofs.GroupLaws.{renoted, notatedBy}
 
 -- ---- any step on the latest m records
 
 module _ (m : ℕ) (all : List Note) (h : ℕ → Note → Notations) (f : ℕ → Notations → Notations)
-    (inside : (p : List Note) (x : Note) (l : List Note) → all ≡ p ++ x ∷ l → length p < m → h (length p) x ≡ cond (isTimed x) (f (timedIn (take (m - suc (length p)) l)) (x .notations)) (x .notations))
+    (inside : (p : List Note) (x : Note) (l : List Note) → all ≡ p ++ x ∷ l → length p < m → h (length p) x ≡ cond (isNonGrace x) (f (nonGraceIn (take (m - suc (length p)) l)) (x .notations)) (x .notations))
     (outside : (i : ℕ) (x : Note) → m ≤ i → h i x ≡ x .notations) where
-  beyond : (i : ℕ) (l : List Note) → m ≤ i → renotated h i l ≡ l
+  beyond : (i : ℕ) (l : List Note) → m ≤ i → withNotations h i l ≡ l
   beyond i [] g = refl
   beyond i (x ∷ l) g = λ k. renoted (outside i x g k) x ∷ beyond (suc i) l (omega arith) k
 
-  within : (p l : List Note) → all ≡ p ++ l → renotated h (length p) l ≡ notatedBy f (take (m - length p) l) ++ drop (m - length p) l
+  within : (p l : List Note) → all ≡ p ++ l → withNotations h (length p) l ≡ notatedBy f (take (m - length p) l) ++ drop (m - length p) l
   within p [] e = rw (take-nil, drop-nil)
   within p (x ∷ l) e = go (ltb (length p) m) refl (rw one at (within (p ++ x ∷ []) l (rw append-assoc e)))
     where
       one : length (p ++ x ∷ []) ≡ suc (length p)
       one = rw length-append (omega arith)
 
-      go : (b : Bool) → ltb (length p) m ≡ b → renotated h (suc (length p)) l ≡ notatedBy f (take (m - suc (length p)) l) ++ drop (m - suc (length p)) l
-          → renotated h (length p) (x ∷ l) ≡ notatedBy f (take (m - length p) (x ∷ l)) ++ drop (m - length p) (x ∷ l)
+      go : (b : Bool) → ltb (length p) m ≡ b → withNotations h (suc (length p)) l ≡ notatedBy f (take (m - suc (length p)) l) ++ drop (m - suc (length p)) l
+          → withNotations h (length p) (x ∷ l) ≡ notatedBy f (take (m - length p) (x ∷ l)) ++ drop (m - length p) (x ∷ l)
       go true g r =
           let k = ltb-true (length p) m g in
           let d : m - length p ≡ suc (m - suc (length p)) = omega arith in
@@ -42,8 +42,8 @@ module _ (m : ℕ) (all : List Note) (h : ℕ → Note → Notations) (f : ℕ �
           let d : m - length p ≡ 0 = omega arith in
           rw d (beyond (length p) (x ∷ l) k)
 
-  pub renotated-part : renotated h 0 all ≡ notatedBy f (take m all) ++ drop m all
-  renotated-part = rw sub-zero at (within [] all refl)
+  pub withNotations-part : withNotations h 0 all ≡ notatedBy f (take m all) ++ drop m all
+  withNotations-part = rw sub-zero at (within [] all refl)
 
 -- ---- `)`
 
@@ -55,12 +55,12 @@ and-false : (b : Bool) → b && false ≡ false
 and-false true = refl
 and-false false = refl
 
-pub renotated-group : (g : Group) (s : State) → renotated (groupClosed g s) 0 (s .openBar)
+pub withNotations-group : (g : Group) (s : State) → withNotations (groupClosed g s) 0 (s .openBar)
     ≡ notatedBy (λ k. closed (closingOf g s)) (notesFrom (g .start) (s .openBar)) ++ drop (length (s .openBar) - g .start) (s .openBar)
-renotated-group g s = let m = length (s .openBar) - g .start in
-    renotated-part m (s .openBar) (groupClosed g s) (λ k. closed (closingOf g s))
-    (λ p x l e h. rw (lt-ltb (length p) m h, and-true (isTimed x)))
-    (λ i x h. rw (le-ltb i m h, and-false (isTimed x)))
+withNotations-group g s = let m = length (s .openBar) - g .start in
+    withNotations-part m (s .openBar) (groupClosed g s) (λ k. closed (closingOf g s))
+    (λ p x l e h. rw (lt-ltb (length p) m h, and-true (isNonGrace x)))
+    (λ i x h. rw (le-ltb i m h, and-false (isNonGrace x)))
 
 -- a fermata closes a group of one
 pub fermata-one : (timed : ℕ) (count : Option ℕ) → closing timed count ≡ fermata → timed ≡ 1
@@ -74,11 +74,11 @@ fermata-one (suc (suc timed)) count e = absurd (go (ltb (Option·getD count 3) 3
 
 -- ---- `}`
 
-timed-append : (x z : List Note) → timedIn (x ++ z) ≡ timedIn x + timedIn z
+timed-append : (x z : List Note) → nonGraceIn (x ++ z) ≡ nonGraceIn x + nonGraceIn z
 timed-append [] z = omega arith
-timed-append (n ∷ x) z = go (isTimed n) (timed-append x z)
+timed-append (n ∷ x) z = go (isNonGrace n) (timed-append x z)
   where
-    go : (b : Bool) → timedIn (x ++ z) ≡ timedIn x + timedIn z → cond b (suc (timedIn (x ++ z))) (timedIn (x ++ z)) ≡ cond b (suc (timedIn x)) (timedIn x) + timedIn z
+    go : (b : Bool) → nonGraceIn (x ++ z) ≡ nonGraceIn x + nonGraceIn z → cond b (suc (nonGraceIn (x ++ z))) (nonGraceIn (x ++ z)) ≡ cond b (suc (nonGraceIn x)) (nonGraceIn x) + nonGraceIn z
     go true e = omega arith
     go false e = e
 
@@ -89,21 +89,21 @@ ends-agree (suc j) zero total e h = rw (ne-eqb (suc j) 0 (λ z. omega arith), eq
 ends-agree zero (suc k) total e h = rw (ne-eqb (suc k) 0 (λ z. omega arith), eq-eqb (suc k + 1) total (omega arith))
 ends-agree (suc j) (suc k) total e h = rw (ne-eqb (suc j) 0 (λ z. omega arith), ne-eqb (suc k) 0 (λ z. omega arith), ne-eqb (suc (suc j)) total (λ z. omega arith), ne-eqb (suc k + 1) total (λ z. omega arith))
 
-pub renotated-beam : (start : ℕ) (s : State) → let part = notesFrom start (s .openBar) in 1 < timedIn part
-    → renotated (beamClosed start s) 0 (s .openBar) ≡ notatedBy (λ k. withBeam (beamNumber k (timedIn part))) part ++ drop (length (s .openBar) - start) (s .openBar)
-renotated-beam start s h = renotated-part m (s .openBar) (beamClosed start s) (λ k. withBeam (beamNumber k total)) inside (λ i x k. rw (le-ltb i m k, and-false (isTimed x)))
+pub withNotations-beam : (start : ℕ) (s : State) → let part = notesFrom start (s .openBar) in 1 < nonGraceIn part
+    → withNotations (beamClosed start s) 0 (s .openBar) ≡ notatedBy (λ k. withBeam (beamNumber k (nonGraceIn part))) part ++ drop (length (s .openBar) - start) (s .openBar)
+withNotations-beam start s h = withNotations-part m (s .openBar) (beamClosed start s) (λ k. withBeam (beamNumber k total)) inside (λ i x k. rw (le-ltb i m k, and-false (isNonGrace x)))
   where
     m : ℕ
     m = length (s .openBar) - start
 
     total : ℕ
-    total = timedIn (take m (s .openBar))
+    total = nonGraceIn (take m (s .openBar))
 
     inside : (p : List Note) (x : Note) (l : List Note) → s .openBar ≡ p ++ x ∷ l → length p < m
-        → beamClosed start s (length p) x ≡ cond (isTimed x) (withBeam (beamNumber (timedIn (take (m - suc (length p)) l)) total) (x .notations)) (x .notations)
+        → beamClosed start s (length p) x ≡ cond (isNonGrace x) (withBeam (beamNumber (nonGraceIn (take (m - suc (length p)) l)) total) (x .notations)) (x .notations)
     inside p x l e k =
         let t : take (length p) (s .openBar) ≡ p = ap (take (length p)) e ∙ take-at p (x ∷ l) (length p) refl in
-        rw (t, lt-ltb (length p) m k, lt-ltb 1 total h, and-true, and-true) (go (isTimed x) refl)
+        rw (t, lt-ltb (length p) m k, lt-ltb 1 total h, and-true, and-true) (go (isNonGrace x) refl)
       where
         -- what stands in the part
         part : take m (s .openBar) ≡ p ++ x ∷ take (m - suc (length p)) l
@@ -111,15 +111,15 @@ renotated-beam start s h = renotated-part m (s .openBar) (beamClosed start s) (�
             let d : m ≡ length p + suc (m - suc (length p)) = omega arith in
             ap (take m) e ∙ ap (λ (n : ℕ). take n (p ++ x ∷ l)) d ∙ take-append-add p (x ∷ l) (suc (m - suc (length p)))
 
-        go : (b : Bool) → isTimed x ≡ b → cond b (withBeam (cond (eqb (timedIn p) 0) 3 (cond (eqb (suc (timedIn p)) total) 1 2)) (x .notations)) (x .notations)
-            ≡ cond b (withBeam (beamNumber (timedIn (take (m - suc (length p)) l)) total) (x .notations)) (x .notations)
-        go true q = ap (λ (n : ℕ). withBeam n (x .notations)) (ends-agree (timedIn p) (timedIn (take (m - suc (length p)) l)) total (ap timedIn part ∙ timed-append p (x ∷ take (m - suc (length p)) l) ∙ rw q) h)
+        go : (b : Bool) → isNonGrace x ≡ b → cond b (withBeam (cond (eqb (nonGraceIn p) 0) 3 (cond (eqb (suc (nonGraceIn p)) total) 1 2)) (x .notations)) (x .notations)
+            ≡ cond b (withBeam (beamNumber (nonGraceIn (take (m - suc (length p)) l)) total) (x .notations)) (x .notations)
+        go true q = ap (λ (n : ℕ). withBeam n (x .notations)) (ends-agree (nonGraceIn p) (nonGraceIn (take (m - suc (length p)) l)) total (ap nonGraceIn part ∙ timed-append p (x ∷ take (m - suc (length p)) l) ∙ rw q) h)
         go false q = refl
 
 -- fewer than two are not beamed
-pub renotated-few : (start : ℕ) (s : State) → timedIn (notesFrom start (s .openBar)) ≤ 1 → renotated (beamClosed start s) 0 (s .openBar) ≡ s .openBar
-renotated-few start s h = go 0 (s .openBar)
+pub withNotations-few : (start : ℕ) (s : State) → nonGraceIn (notesFrom start (s .openBar)) ≤ 1 → withNotations (beamClosed start s) 0 (s .openBar) ≡ s .openBar
+withNotations-few start s h = go 0 (s .openBar)
   where
-    go : (i : ℕ) (l : List Note) → renotated (beamClosed start s) i l ≡ l
+    go : (i : ℕ) (l : List Note) → withNotations (beamClosed start s) i l ≡ l
     go i [] = refl
-    go i (x ∷ l) = rw (le-ltb 1 (timedIn (notesFrom start (s .openBar))) h, and-false, go (suc i) l)
+    go i (x ∷ l) = rw (le-ltb 1 (nonGraceIn (notesFrom start (s .openBar))) h, and-false, go (suc i) l)

@@ -7,7 +7,7 @@ use lib.IntN.{ℤ, pos}
 use lib.ListN.{length, getD, take, drop, length-append, length-map, length-drop, length-take, take-append-drop}
 use Rattle.rules.specs.Limits.{noteSize}
 use Rattle.rules.specs.Records.{Note, Bar, notesOf}
-use Rattle.rules.specs.Rules.{notesFrom, copied, timedIn}
+use Rattle.rules.specs.Rules.{notesFrom, copied, nonGraceIn}
 use Rattle.rules.specs.Words.{cells, zeros, padded, Numbered, noteWords, inBar, numbered}
 use Rattle.records.specs.Cells.{written, withRecord, changed}
 use Rattle.records.specs.Copies.{copies}
@@ -109,7 +109,7 @@ module _ (n : ℕ) (ns : List Note) (bars : List Bar) where
         (λ i. take (m i * noteSize) (drop (sym length-before i * noteSize) (cells noteWords (split i) ++ zs))) ∙ part-words noteWords noteSize length-note (inBar b part) before zs
 
     -- its non-grace records
-    pub part-timed : timedCount (drop ((length (notesOf bars) + start) * noteSize) (notesIn n ns bars)) (length ns - start) ≡ timedIn part
+    pub part-timed : timedCount (drop ((length (notesOf bars) + start) * noteSize) (notesIn n ns bars)) (length ns - start) ≡ nonGraceIn part
     part-timed =
         let zs = zeros (n - length (cells noteWords (storedIn ns bars))) in
         (λ i. timedCount (part-cells i) (sym length-part i)) ∙ count-read b zs (cells (wordsIn b) part ++ zs) [] part refl

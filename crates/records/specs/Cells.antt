@@ -1,7 +1,7 @@
 -- Records in lent cells, each of `size` words. Assumes nothing.
 use Prim.Native.Nat.{ℕ, _+_, _*_}
 use mathlib.Core.List.{List, _++_}
-use lib.IntN.{ℤ, pos, negsuc}
+use lib.IntN.{ℤ}
 use lib.ListN.{length, take, drop}
 
 -- the cells with these words from `at` on
@@ -19,11 +19,6 @@ withRecord size l number words = written l (number * size) words
 -- record `number` changed by f
 abbrev pub changed : ℕ → (List ℤ → List ℤ) → List ℤ → ℕ → List ℤ
 changed size f l number = withRecord size l number (f (recordAt size l number))
-
--- the number that a word holds, 0 where it is below 0
-abbrev pub natural : ℤ → ℕ
-natural (pos n) = n
-natural (negsuc n) = 0
 
 -- a word holds numbers below this one
 abbrev pub wordLimit : ℕ

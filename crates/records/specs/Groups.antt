@@ -12,7 +12,8 @@ use Rattle.records.specs.declared.group.Notation.{Notation}
 use Rattle.records.specs.declared.group.Notation.the-variants.{Beam, Tuplet}
 use Rattle.records.specs.declared.group.Closing.{Closing}
 use Rattle.records.specs.declared.group.Closing.the-variants as code
-use Rattle.records.specs.Cells.{changed, natural}
+use Rattle.rules.specs.Stored.{natural}
+use Rattle.records.specs.Cells.{changed}
 use Rattle.records.specs.Notes.{kindAt, beamAt, actualAt, normalAt, marked}
 
 -- record `number` is non-grace: kind 0 or 1
@@ -25,9 +26,9 @@ timedCount l zero = 0
 timedCount l (suc k) = cond (timedAt l k) (timedCount l k + 1) (timedCount l k)
 
 -- the number of the last non-grace one
-unfoldable pub lastTimed : List ℤ → ℕ → ℕ
-lastTimed l zero = 0
-lastTimed l (suc k) = cond (timedAt l k) k (lastTimed l k)
+unfoldable pub lastNonGrace : List ℤ → ℕ → ℕ
+lastNonGrace l zero = 0
+lastNonGrace l (suc k) = cond (timedAt l k) k (lastNonGrace l k)
 
 -- the beam of a record, `earlier` of `total` before it: the first 1, the last 3, those between 2
 abbrev pub beamNumber : ℕ → ℕ → ℕ
@@ -50,7 +51,7 @@ beamed l count = cond (ltb 1 (timedCount l count)) (walked (notatedWords (Beam (
 
 -- `)` that makes a fermata: at the last non-grace record
 unfoldable pub fermataIn : List ℤ → ℕ → List ℤ
-fermataIn l count = changed noteSize (marked false) l (lastTimed l count)
+fermataIn l count = changed noteSize (marked false) l (lastNonGrace l count)
 
 -- a step on the part from record `from` on
 abbrev pub onPart : ℕ → (List ℤ → List ℤ) → List ℤ → List ℤ

@@ -11,7 +11,8 @@ use Rattle.rules.specs.Rules.{plain}
 use Rattle.rules.specs.Words.{Numbered, pitchWords, powerOfTwo}
 use Rattle.records.specs.declared.note.Heading.{Heading}
 use Rattle.records.specs.declared.note.Pitch.{Pitch}
-use Rattle.records.specs.Cells.{written, natural}
+use Rattle.rules.specs.Stored.{natural}
+use Rattle.records.specs.Cells.{written}
 
 abbrev pub headingOf : Heading → rules.Heading
 headingOf h = record { place = h .place .0; kind = h .kind; duration = h .duration; dots = h .dots }

@@ -6,7 +6,7 @@ ghost use Rattle.rules.specs.Limits.{barSize};
 ghost use Rattle.records.specs.Cells.{withRecord, wordLimit};
 ghost use Rattle.records.specs.Bars.{barNumbers};
 use super::cells::BAR;
-use super::cells::write;
+use super::words::write;
 
 // First note from 0, note count, clef (0 none), key set 0 or 1, fifths, meter (0, 0: none) with symbol, left and right.
 pub struct Bar {

@@ -7,13 +7,13 @@ ghost use Rattle.records.specs.Cells.{written, wordLimit};
 ghost use Rattle.records.specs.Copies.{copyOf, copies};
 use super::Place;
 use super::cells::NOTE;
-use super::cells::load;
-use super::cells::store;
-use super::cells::write;
 use super::note::BAR_NUMBER;
 use super::note::PLACE;
 use super::note::TIES;
-use super::note::with_number;
+use super::words::load;
+use super::words::store;
+use super::words::with_number;
+use super::words::write;
 
 // A copy's words.
 fn copy_of(words: [i32; NOTE], place: Place, bar: u32) -> [i32; NOTE]

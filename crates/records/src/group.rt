@@ -7,17 +7,17 @@ ghost use Rattle.rules.specs.Limits.{noteSize};
 ghost use Rattle.rules.specs.Rules.{closing, tupletOf};
 ghost use Rattle.records.specs.Cells.{recordAt, changed, wordLimit};
 ghost use Rattle.records.specs.Notes.{HasRoom};
-ghost use Rattle.records.specs.Groups.{timedAt, timedCount, lastTimed, beamNumber, notatedWords, walked, beamed, fermataIn, onPart, closingOf, countOf};
+ghost use Rattle.records.specs.Groups.{timedAt, timedCount, lastNonGrace, beamNumber, notatedWords, walked, beamed, fermataIn, onPart, closingOf, countOf};
 use super::cells::NOTE;
-use super::cells::load;
-use super::cells::store;
 use super::note::ACTUAL;
 use super::note::BEAM;
 use super::note::KIND;
 use super::note::NORMAL;
 use super::note::add_mark;
 use super::note::field;
-use super::note::with_number;
+use super::words::load;
+use super::words::store;
+use super::words::with_number;
 
 // The non-grace records of a part: how many, and the number of the last.
 pub struct Timed {
@@ -60,7 +60,7 @@ fn choose(test: bool, yes: usize, no: usize) -> usize
 // The non-grace records of the part's first `count`.
 fn timed_in(part: &[i32], count: usize) -> Timed
     requires { ⌜ count * noteSize ≤ length (now part) ⌝ }
-    ensures { λ r. ⌜ (r .count ≡ timedCount (now (part .entry)) count) × (r .last ≡ lastTimed (now (part .entry)) count) ⌝ }
+    ensures { λ r. ⌜ (r .count ≡ timedCount (now (part .entry)) count) × (r .last ≡ lastNonGrace (now (part .entry)) count) ⌝ }
 {
     let mut seen: usize = 0;
     let mut last: usize = 0;
@@ -144,7 +144,7 @@ fn beam(part: &mut [i32], count: usize)
 
 // A fermata at the last non-grace one of the part's first `count` records.
 fn fermata(part: &mut [i32], count: usize)
-    requires { ⌜ (count * noteSize ≤ length (now part)) × (0 < count) × HasRoom (recordAt noteSize (now part) (lastTimed (now part) count)) ⌝ }
+    requires { ⌜ (count * noteSize ≤ length (now part)) × (0 < count) × HasRoom (recordAt noteSize (now part) (lastNonGrace (now part) count)) ⌝ }
     ensures { λ _. ⌜ now (part .exit) ≡ fermataIn (now (part .entry)) count ⌝ }
 {
     let timed = timed_in(part, count);
@@ -156,7 +156,7 @@ fn fermata(part: &mut [i32], count: usize)
 // The non-grace ones of `count` records from record `from` on.
 pub fn timed_from(notes: &[i32], from: usize, count: usize) -> Timed
     requires { ⌜ from * noteSize + count * noteSize ≤ length (now notes) ⌝ }
-    ensures { λ r. ⌜ (r .count ≡ timedCount (drop (from * noteSize) (now (notes .entry))) count) × (r .last ≡ lastTimed (drop (from * noteSize) (now (notes .entry))) count) ⌝ }
+    ensures { λ r. ⌜ (r .count ≡ timedCount (drop (from * noteSize) (now (notes .entry))) count) × (r .last ≡ lastNonGrace (drop (from * noteSize) (now (notes .entry))) count) ⌝ }
 {
     let start = from * NOTE;
     timed_in(&notes[start..], count)
@@ -173,7 +173,7 @@ pub fn beam_from(notes: &mut [i32], from: usize, count: usize)
 
 // `)` that makes a fermata
 pub fn fermata_from(notes: &mut [i32], from: usize, count: usize)
-    requires { ⌜ (from * noteSize + count * noteSize ≤ length (now notes)) × (0 < count) × HasRoom (recordAt noteSize (drop (from * noteSize) (now notes)) (lastTimed (drop (from * noteSize) (now notes)) count)) ⌝ }
+    requires { ⌜ (from * noteSize + count * noteSize ≤ length (now notes)) × (0 < count) × HasRoom (recordAt noteSize (drop (from * noteSize) (now notes)) (lastNonGrace (drop (from * noteSize) (now notes)) count)) ⌝ }
     ensures { λ _. ⌜ now (notes .exit) ≡ onPart from (λ part. fermataIn part count) (now (notes .entry)) ⌝ }
 {
     let start = from * NOTE;

@@ -5,6 +5,7 @@ pub mod copy;
 pub mod diagnostic;
 pub mod group;
 pub mod note;
+mod words;
 
 // A line's number, from 1.
 pub struct Line(pub u32);

@@ -3,22 +3,24 @@ ghost use mathlib.Core.Path.{_≡_};
 ghost use Prim.Native.Nat.{_+_, _*_, _≤_, _<_};
 ghost use mathlib.Core.Bool.{false, cond};
 ghost use mathlib.Core.List.{[], _∷_};
-ghost use lib.ListN.{length, getD, set, take};
+ghost use lib.ListN.{length, getD, take};
 ghost use lib.IntN.{pos};
 ghost use lib.Dec.{leb};
 ghost use Rattle.rules.specs.Limits.{noteSize, pitchSize, pitchCapacity, markCapacity};
 ghost use Rattle.rules.specs.Rules.{plain};
 ghost use Rattle.rules.specs.Words.{zeros, noteWords, pitchWords, tiesWord, powerOfTwo};
-ghost use Rattle.records.specs.Cells.{recordAt, withRecord, changed, natural, wordLimit};
+ghost use Rattle.rules.specs.Stored.{natural};
+ghost use Rattle.records.specs.Cells.{recordAt, withRecord, changed, wordLimit};
 ghost use Rattle.records.specs.Notes.{headingOf, pitchOf, opened, numberAt, pitchCountAt, pitchesAt, pitched, tieStarted, marked, HasRoom};
 use super::Place;
 use super::cells::FIRST_PITCH;
 use super::cells::NOTE;
 use super::cells::PITCH;
-use super::cells::load;
 use super::cells::natural;
-use super::cells::store;
-use super::cells::write;
+use super::words::load;
+use super::words::store;
+use super::words::with_number;
+use super::words::write;
 
 // Where a note's words stand.
 pub const PLACE: usize = 0;
@@ -70,16 +72,6 @@ fn number_at(words: [i32; NOTE], at: usize) -> u32
 {
     let word = words[at];
     natural(word)
-}
-
-// A number put into a word.
-pub fn with_number(words: [i32; NOTE], at: usize, number: u32) -> [i32; NOTE]
-    requires { ⌜ (at < noteSize) × (number < wordLimit) ⌝ }
-    ensures { λ r. ⌜ r ≡ set words at (pos number) ⌝ }
-{
-    let mut more = words;
-    more[at] = number as i32;
-    more
 }
 
 // The ties of a new record: 2 where a tie ends at it.

@@ -10,8 +10,8 @@ use Rattle.rules.specs.Tokens.{Item}
 use Rattle.rules.specs.Records.{isSome, given, isEmpty}
 use Rattle.rules.specs.Rules.{State, Group, Closing, closingOf, endsInNote}
 use Rattle.rules.specs.Diagnostics.{groupDiagnosed, figureDiagnosed, markingDiagnosed, tokenDiagnosed}
-use Rattle.values.specs.declared.pae.Groups.{Groups}
-use Rattle.values.specs.declared.pae.Pae.{Pae}
+use Rattle.limits.specs.declared.Groups.{Groups}
+use Rattle.limits.specs.declared.Pae.{Pae}
 use Rattle.decode.specs.Decode.{tokenIn, figureIn, markingIn}
 use Rattle.decode.specs.declared.Figure.{Figure}
 use Rattle.decode.specs.declared.Figure.the-variants as f

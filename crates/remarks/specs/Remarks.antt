@@ -13,10 +13,10 @@ use Rattle.rules.specs.Diagnostics.{diagnostic, unless, here, afterFirst, allOf
 use Rattle.records.specs.Cells.{wordLimit}
 use Rattle.values.specs.Rhythm.{octaveIn}
 use Rattle.values.specs.declared.rhythm.Octave.{Octave}
-use Rattle.values.specs.declared.pae.Counts.{Counts}
-use Rattle.values.specs.declared.pae.Start.{Start}
-use Rattle.values.specs.declared.pae.Groups.{Groups}
-use Rattle.values.specs.declared.pae.Pae.{Pae}
+use Rattle.limits.specs.declared.Counts.{Counts}
+use Rattle.limits.specs.declared.Start.{Start}
+use Rattle.limits.specs.declared.Groups.{Groups}
+use Rattle.limits.specs.declared.Pae.{Pae}
 use Rattle.decode.specs.Decode.{tokenIn}
 use Rattle.decode.specs.declared.Figure.{Figure}
 use Rattle.decode.specs.declared.Figure.the-variants as f
@@ -31,11 +31,15 @@ use Rattle.remarks.specs.declared.Span.{Span}
 
 -- a token that stands there; which one plays no part
 abbrev pub itemIn : Span → rules.Item
-itemIn span = record { place = span .place; offset = span .offset; size = span .size; token = rules.rest }
+itemIn span = record { place = span .place .0; offset = span .offset .0; size = span .size; token = rules.rest }
 
 -- its place and offsets go into words
 abbrev pub SpanFits : Span → Type 0
-SpanFits span = (span .place < wordLimit) × (0 < span .size) × (span .offset + span .size < wordLimit)
+SpanFits span = (span .place .0 < wordLimit) × (0 < span .size) × (span .offset .0 + span .size < wordLimit)
+
+-- the span of the data's token from `at` to `end`, where the data stands at offset `start` of the text
+abbrev pub spanOf : ℕ → ℕ → ℕ → Span
+spanOf at end start = record { place = record { 0 = at + 1 }; offset = record { 0 = start + at }; size = end - at }
 
 -- the bytes after the first of the data's token from `at` to `end`
 abbrev pub valueFrom : List ℕ → ℕ → ℕ → List ℕ

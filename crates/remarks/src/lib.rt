@@ -9,12 +9,15 @@ ghost use Rattle.rules.specs.Diagnostics.{unless, closingDiagnosed};
 ghost use Rattle.records.specs.Cells.{wordLimit};
 ghost use Rattle.records.specs.Groups.{closingOf};
 ghost use Rattle.diagnose.specs.Found.{foundIn};
-ghost use Rattle.remarks.specs.Remarks.{SpanFits, itemIn, whole, after, clefFound, keyFound, meterFound, markFound, countFound, groupFound};
+ghost use Rattle.remarks.specs.Remarks.{SpanFits, spanOf, itemIn, whole, after, clefFound, keyFound, meterFound, markFound, countFound, groupFound};
 use diagnose::Found;
 use diagnose::Where;
 use diagnose::clef_found;
 use diagnose::key_found;
 use diagnose::meter_found;
+use limits::Counts;
+use limits::Groups;
+use limits::Start;
 use records::Offset;
 use records::Place;
 use records::diagnostic::at_data;
@@ -26,25 +29,22 @@ use text::Count;
 use values::attributes::ClefValue;
 use values::attributes::Key;
 use values::attributes::Meter;
-use values::pae::Counts;
-use values::pae::Groups;
-use values::pae::Start;
 
 // A token's place in the data, its offset in the text and its size.
 pub struct Span {
-    pub place: u32,
-    pub offset: u32,
+    pub place: Place,
+    pub offset: Offset,
     pub size: u32,
 }
 
 // Of the token from `at` to `end` of the data, which stands at offset `start` of the text.
 pub fn span_of(at: usize, end: usize, start: usize) -> Span
     requires { ⌜ (at < end) × (start + end < wordLimit) ⌝ }
-    ensures { λ r. ⌜ r ≡ record { place = at + 1; offset = start + at; size = end - at } ⌝ }
+    ensures { λ r. ⌜ r ≡ spanOf at end start ⌝ }
 {
     Span {
-        place: (at + 1) as u32,
-        offset: (start + at) as u32,
+        place: Place((at + 1) as u32),
+        offset: Offset((start + at) as u32),
         size: (end - at) as u32,
     }
 }
@@ -56,8 +56,8 @@ pub fn whole(d: u8, span: Span) -> Found
     requires { ⌜ SpanFits span ⌝ }
     ensures { λ r. ⌜ foundIn r ≡ map diagnosticWords (whole d (itemIn span) ∷ []) ⌝ }
 {
-    let end = Offset(span.offset + span.size);
-    Found::One(at_data(d, Place(span.place), Offset(span.offset), end))
+    let end = Offset(span.offset.0 + span.size);
+    Found::One(at_data(d, span.place, span.offset, end))
 }
 
 // With the text after its first byte.
@@ -65,9 +65,9 @@ fn after_first(d: u8, span: Span) -> Found
     requires { ⌜ SpanFits span ⌝ }
     ensures { λ r. ⌜ foundIn r ≡ map diagnosticWords (after d (itemIn span) ∷ []) ⌝ }
 {
-    let from = Offset(span.offset + 1);
-    let end = Offset(span.offset + span.size);
-    Found::One(at_data(d, Place(span.place), from, end))
+    let from = Offset(span.offset.0 + 1);
+    let end = Offset(span.offset.0 + span.size);
+    Found::One(at_data(d, span.place, from, end))
 }
 
 // Unless all is fine.
@@ -91,9 +91,10 @@ pub fn clef_remarks(content: bool, value: ClefValue, span: Span) -> Found
     if content {
         return after_first(3, span);
     }
-    let from = Offset(span.offset + 1);
-    let end = Offset(span.offset + span.size);
-    clef_found(Where::Data(Place(span.place)), from, end, value)
+    let place = span.place;
+    let from = Offset(span.offset.0 + 1);
+    let end = Offset(span.offset.0 + span.size);
+    clef_found(Where::Data(place), from, end, value)
 }
 
 // `$`, likewise with the key.
@@ -104,9 +105,10 @@ pub fn key_remarks(content: bool, value: Key, span: Span) -> Found
     if content {
         return after_first(3, span);
     }
-    let from = Offset(span.offset + 1);
-    let end = Offset(span.offset + span.size);
-    key_found(Where::Data(Place(span.place)), from, end, value)
+    let place = span.place;
+    let from = Offset(span.offset.0 + 1);
+    let end = Offset(span.offset.0 + span.size);
+    key_found(Where::Data(place), from, end, value)
 }
 
 // `@`, likewise with the meter.
@@ -117,9 +119,10 @@ pub fn meter_remarks(content: bool, value: Meter, span: Span) -> Found
     if content {
         return after_first(3, span);
     }
-    let from = Offset(span.offset + 1);
-    let end = Offset(span.offset + span.size);
-    meter_found(Where::Data(Place(span.place)), from, end, value)
+    let place = span.place;
+    let from = Offset(span.offset.0 + 1);
+    let end = Offset(span.offset.0 + span.size);
+    meter_found(Where::Data(place), from, end, value)
 }
 
 // The second `!` in a bar now shorter, d17.
@@ -160,9 +163,7 @@ fn closing_found(closing: Closing, span: Span) -> Found
         Closing::Nothing => Found::Nothing,
         Closing::Fermata => Found::Nothing,
         Closing::Tuplet(_) => Found::Nothing,
-        Closing::TooFew(actual) => {
-            Found::One(at_data_number(11, Place(span.place), actual as u32))
-        }
+        Closing::TooFew(actual) => Found::One(at_data_number(11, span.place, actual as u32)),
     }
 }
 
@@ -174,7 +175,7 @@ pub fn group_found(groups: Groups, counts: Counts, closing: Closing, span: Span)
     let paren = groups.paren;
     if paren.noted {
         if open_length(counts) < paren.length {
-            return Found::One(at_data_parentheses(10, Place(span.place)));
+            return Found::One(at_data_parentheses(10, span.place));
         }
         return closing_found(closing, span);
     }

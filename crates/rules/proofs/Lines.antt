@@ -1,28 +1,34 @@
--- 01's 'Lines to prove, lines to dodge', over the bytes, as one statement; and a line for each of its mistakes to rule out. Assumes nothing.
-use Prim.Native.Nat.{ℕ, zero, suc, _+_, _*_}
-use mathlib.Core.Path.{_≡_, refl}
+-- 01's 'Lines to prove, lines to dodge', over the bytes, as one statement; lines for its mistakes to rule out; and lines for slips in single rules.
+-- Each holds for every lent size that suffices. Assumes nothing.
+use Prim.Native.Nat.{ℕ, zero, suc, _*_, _≤_}
+use mathlib.Core.Path.{_≡_, ap}
 use mathlib.Core.List.{List, [], _∷_, _++_}
-use lib.IntN.{ℤ, pos}
+use lib.IntN.{ℤ, pos, negℤ}
 use lib.ListN.{take, drop, getD}
-use Rattle.rules.specs.Limits.{noteSize, barSize, diagnosticSize, diagnosticLimit}
+use Rattle.rules.specs.Limits.{pitchSize, firstPitch, noteSize, barSize, diagnosticSize, diagnosticLimit}
 use Rattle.rules.specs.Text.{bytes}
 use Rattle.rules.specs.Cut.{tokenSize}
 use Rattle.rules.specs.Values.{clefOf, keyOf, meterOf, countOf, patternOf}
 use Rattle.rules.specs.Tokens.{tokenOf, itemAt, itemsAfter}
+use Rattle.rules.specs.Records.{given}
 use Rattle.rules.specs.Rules.{step, stateAfter}
 use Rattle.rules.specs.Diagnostics.{dataDiagnosed}
 use Rattle.rules.specs.Fields.{linesAfter, fieldsAfter, linesDiagnosed, fieldsOf, fieldsDiagnosed}
 use Rattle.rules.specs.Refusals.{tokensRefusal, refusalOf}
-use Rattle.rules.specs.Reading.{Lent, Reading, reading}
+use Rattle.rules.specs.Stored.{natural}
+use Rattle.rules.specs.Reading.{Lent, Reading, accepted, refused, reading}
+use Rattle.rules.proofs.Room.{refusalWith, Settled, read-as}
+
+-- ---- what is lent
+
+-- it suffices for so many notes, bars and figure records, and has 1,024 diagnostic cells or more
+pub record Suffices (notes bars figure : ℕ) (lent : Lent) : Type 0 where
+  pub noteWords : notes * noteSize ≤ lent .notes
+  pub barWords : bars * barSize ≤ lent .bars
+  pub figureWords : figure * noteSize ≤ lent .figure
+  pub diagnosticCells : diagnosticLimit ≤ lent .diagnostics
 
 -- ---- what a line reads to, seen in the lent cells
-
--- room for eight notes, four bars and a figure of four
-abbrev ample : Lent
-ample = record { notes = 8 * noteSize; bars = 4 * barSize; figure = 4 * noteSize; diagnostics = diagnosticLimit }
-
-abbrev read : List ℕ → Reading
-read text = reading text ample
 
 -- word k of each of the n records of `size` words
 abbrev words : ℕ → ℕ → List ℤ → ℕ → List ℤ
@@ -45,109 +51,232 @@ durations = column 2
 abbrev dots : Reading → List ℤ
 dots = column 3
 
+abbrev ties : Reading → List ℤ
+ties = column 4
+
 abbrev actuals : Reading → List ℤ
 actuals = column 6
 
 abbrev normals : Reading → List ℤ
 normals = column 7
 
+abbrev markCounts : Reading → List ℤ
+markCounts = column 8
+
+abbrev pitchCounts : Reading → List ℤ
+pitchCounts = column 10
+
 -- of each note's first pitch
+abbrev steps : Reading → List ℤ
+steps = column 13
+
 abbrev octaves : Reading → List ℤ
 octaves = column 14
 
 abbrev alterations : Reading → List ℤ
 alterations = column 15
 
-abbrev clefs : Reading → List ℤ
-clefs r = words barSize 2 (r .barCells) (r .bars)
+-- word k of each bar
+abbrev barColumn : ℕ → Reading → List ℤ
+barColumn k r = words barSize k (r .barCells) (r .bars)
 
--- the words of n records of six
-abbrev sixes : List ℤ → ℕ → List (List ℤ)
-sixes cells zero = []
-sixes cells (suc n) = take diagnosticSize cells ∷ sixes (drop diagnosticSize cells) n
+abbrev clefs : Reading → List ℤ
+clefs = barColumn 2
+
+abbrev fifths : Reading → List ℤ
+fifths = barColumn 4
+
+-- the words of each of the n records of `size` words
+abbrev records : ℕ → List ℤ → ℕ → List (List ℤ)
+records size cells zero = []
+records size cells (suc n) = take size cells ∷ records size (drop size cells) n
 
 abbrev diagnosed : Reading → List (List ℤ)
-diagnosed r = sixes (r .diagnosticCells) (r .diagnostics)
+diagnosed r = records diagnosticSize (r .diagnosticCells) (r .diagnostics)
+
+-- of the first note, up to its count
+abbrev pitches : Reading → List (List ℤ)
+pitches r = records pitchSize (drop firstPitch (r .noteCells)) (natural (getD (r .noteCells) 10 (pos 0)))
+
+-- the refusal's number and place
+abbrev outcome : Reading → List ℕ
+outcome r = r .number ∷ r .place ∷ []
 
 -- the numbers as words
 abbrev these : List ℕ → List ℤ
 these [] = []
 these (n ∷ ns) = pos n ∷ these ns
 
+abbrev minus : ℕ → ℤ
+minus n = negℤ (pos n)
+
+-- with what suffices, a text is read, or refused, as with just that
+reads : (text : List ℕ) {notes bars figure : ℕ} {lent : Lent} → Suffices notes bars figure lent → Settled text notes bars figure → reading text lent ≡ given (refusalWith text notes bars figure) (accepted text lent) (refused lent)
+reads text {notes} {bars} {figure} {lent} h s = read-as text notes bars figure lent (h .noteWords) (h .barWords) (h .figureWords) (h .diagnosticCells) s
+
 -- ---- the thirteen lines
 
 pub record Lines : Type 0 where
   -- `xC''C'C/C` alters 1 0 1 0
-  pub sharp : alterations (read (bytes "xC''C'C/C")) ≡ these (1 ∷ 0 ∷ 1 ∷ 0 ∷ [])
+  pub sharp : (lent : Lent) → Suffices 4 2 0 lent → alterations (reading (bytes "xC''C'C/C") lent) ≡ these (1 ∷ 0 ∷ 1 ∷ 0 ∷ [])
   -- `x/C` 1
-  pub sharp-waits : alterations (read (bytes "x/C")) ≡ these (1 ∷ [])
+  pub sharp-waits : (lent : Lent) → Suffices 1 1 0 lent → alterations (reading (bytes "x/C") lent) ≡ these (1 ∷ [])
   -- `$xF F nF F/F` 1 0 0 1
-  pub key-and-natural : alterations (read (bytes "$xF F nF F/F")) ≡ these (1 ∷ 0 ∷ 0 ∷ 1 ∷ [])
+  pub key-and-natural : (lent : Lent) → Suffices 4 2 0 lent → alterations (reading (bytes "$xF F nF F/F") lent) ≡ these (1 ∷ 0 ∷ 0 ∷ 1 ∷ [])
   -- `8.6 C D E` dotted 8th, 16th, dotted 8th
-  pub pattern : durations (read (bytes "8.6 C D E")) ≡ these (5 ∷ 6 ∷ 5 ∷ [])
-  pub pattern-dots : dots (read (bytes "8.6 C D E")) ≡ these (1 ∷ 0 ∷ 1 ∷ [])
+  pub pattern : (lent : Lent) → Suffices 3 1 0 lent → durations (reading (bytes "8.6 C D E") lent) ≡ these (5 ∷ 6 ∷ 5 ∷ [])
+  pub pattern-dots : (lent : Lent) → Suffices 3 1 0 lent → dots (reading (bytes "8.6 C D E") lent) ≡ these (1 ∷ 0 ∷ 1 ∷ [])
   -- `86CqDE` 8th, grace 16th, 16th
-  pub grace : durations (read (bytes "86CqDE")) ≡ these (5 ∷ 6 ∷ 6 ∷ [])
-  pub grace-kinds : kinds (read (bytes "86CqDE")) ≡ these (0 ∷ 2 ∷ 0 ∷ [])
+  pub grace : (lent : Lent) → Suffices 3 1 0 lent → durations (reading (bytes "86CqDE") lent) ≡ these (5 ∷ 6 ∷ 6 ∷ [])
+  pub grace-kinds : (lent : Lent) → Suffices 3 1 0 lent → kinds (reading (bytes "86CqDE") lent) ≡ these (0 ∷ 2 ∷ 0 ∷ [])
   -- `4C^E-^G` three records
-  pub chord : read (bytes "4C^E-^G") .notes ≡ 3
+  pub chord : (lent : Lent) → Suffices 3 1 0 lent → reading (bytes "4C^E-^G") lent .notes ≡ 3
   -- `!CD!f` places 2 3 5 5
-  pub figure : places (read (bytes "!CD!f")) ≡ these (2 ∷ 3 ∷ 5 ∷ 5 ∷ [])
+  pub figure : (lent : Lent) → Suffices 4 1 2 lent → places (reading (bytes "!CD!f") lent) ≡ these (2 ∷ 3 ∷ 5 ∷ 5 ∷ [])
   -- `C$xFF` one note, d3 at 2
-  pub mid-bar : read (bytes "C$xFF") .notes ≡ 1
-  pub mid-bar-d3 : diagnosed (read (bytes "C$xFF")) ≡ these (3 ∷ 3 ∷ 2 ∷ 1 ∷ 2 ∷ 5 ∷ []) ∷ []
+  pub mid-bar : (lent : Lent) → Suffices 1 1 0 lent → reading (bytes "C$xFF") lent .notes ≡ 1
+  pub mid-bar-d3 : (lent : Lent) → Suffices 1 1 0 lent → diagnosed (reading (bytes "C$xFF") lent) ≡ these (3 ∷ 3 ∷ 2 ∷ 1 ∷ 2 ∷ 5 ∷ []) ∷ []
   -- six `'` then C octave 9, seven d8
-  pub high : octaves (read (bytes "''''''C")) ≡ these (9 ∷ [])
-  pub too-high : diagnosed (read (bytes "'''''''C")) ≡ these (8 ∷ 3 ∷ 1 ∷ 1 ∷ 0 ∷ 7 ∷ []) ∷ []
+  pub high : (lent : Lent) → Suffices 1 1 0 lent → octaves (reading (bytes "''''''C") lent) ≡ these (9 ∷ [])
+  pub too-high : (lent : Lent) → Suffices 1 1 0 lent → diagnosed (reading (bytes "'''''''C") lent) ≡ these (8 ∷ 3 ∷ 1 ∷ 1 ∷ 0 ∷ 7 ∷ []) ∷ []
   -- `(CDEFG;5)` 5 to 4
-  pub tuplet : actuals (read (bytes "(CDEFG;5)")) ≡ these (5 ∷ 5 ∷ 5 ∷ 5 ∷ 5 ∷ [])
-  pub tuplet-normal : normals (read (bytes "(CDEFG;5)")) ≡ these (4 ∷ 4 ∷ 4 ∷ 4 ∷ 4 ∷ [])
+  pub tuplet : (lent : Lent) → Suffices 5 1 0 lent → actuals (reading (bytes "(CDEFG;5)") lent) ≡ these (5 ∷ 5 ∷ 5 ∷ 5 ∷ 5 ∷ [])
+  pub tuplet-normal : (lent : Lent) → Suffices 5 1 0 lent → normals (reading (bytes "(CDEFG;5)") lent) ≡ these (4 ∷ 4 ∷ 4 ∷ 4 ∷ 4 ∷ [])
   -- `(CD;2)` d11 at 6
-  pub too-few : diagnosed (read (bytes "(CD;2)")) ≡ these (11 ∷ 3 ∷ 6 ∷ 3 ∷ 2 ∷ 0 ∷ []) ∷ []
+  pub too-few : (lent : Lent) → Suffices 2 1 0 lent → diagnosed (reading (bytes "(CD;2)") lent) ≡ these (11 ∷ 3 ∷ 6 ∷ 3 ∷ 2 ∷ 0 ∷ []) ∷ []
   -- `@c:C` refused 5
-  pub no-data : read (bytes "@c:C") .number ≡ 5
+  pub no-data : (lent : Lent) → Suffices 0 0 0 lent → outcome (reading (bytes "@c:C") lent) ≡ 5 ∷ 0 ∷ []
   -- `C=` refused 6 at 2
-  pub measure-rest : read (bytes "C=") .number ≡ 6
-  pub measure-rest-place : read (bytes "C=") .place ≡ 2
+  pub whole-bar-rest : (lent : Lent) → Suffices 1 0 0 lent → outcome (reading (bytes "C=") lent) ≡ 6 ∷ 2 ∷ []
 
 pub lines : Lines
-unfolding reading tokenSize clefOf keyOf meterOf countOf patternOf tokenOf itemAt itemsAfter step stateAfter dataDiagnosed linesAfter fieldsAfter linesDiagnosed fieldsOf fieldsDiagnosed tokensRefusal refusalOf
+unfolding tokenSize clefOf keyOf meterOf countOf patternOf tokenOf itemAt itemsAfter step stateAfter dataDiagnosed linesAfter fieldsAfter linesDiagnosed fieldsOf fieldsDiagnosed tokensRefusal refusalOf
 lines = record {
-  sharp = refl;
-  sharp-waits = refl;
-  key-and-natural = refl;
-  pattern = refl;
-  pattern-dots = refl;
-  grace = refl;
-  grace-kinds = refl;
-  chord = refl;
-  figure = refl;
-  mid-bar = refl;
-  mid-bar-d3 = refl;
-  high = refl;
-  too-high = refl;
-  tuplet = refl;
-  tuplet-normal = refl;
-  too-few = refl;
-  no-data = refl;
-  measure-rest = refl;
-  measure-rest-place = refl;
+  sharp = λ lent h. ap alterations (reads _ h tt);
+  sharp-waits = λ lent h. ap alterations (reads _ h tt);
+  key-and-natural = λ lent h. ap alterations (reads _ h tt);
+  pattern = λ lent h. ap durations (reads _ h tt);
+  pattern-dots = λ lent h. ap dots (reads _ h tt);
+  grace = λ lent h. ap durations (reads _ h tt);
+  grace-kinds = λ lent h. ap kinds (reads _ h tt);
+  chord = λ lent h. ap (λ r. r .notes) (reads _ h tt);
+  figure = λ lent h. ap places (reads _ h tt);
+  mid-bar = λ lent h. ap (λ r. r .notes) (reads _ h tt);
+  mid-bar-d3 = λ lent h. ap diagnosed (reads _ h tt);
+  high = λ lent h. ap octaves (reads _ h tt);
+  too-high = λ lent h. ap diagnosed (reads _ h tt);
+  tuplet = λ lent h. ap actuals (reads _ h tt);
+  tuplet-normal = λ lent h. ap normals (reads _ h tt);
+  too-few = λ lent h. ap diagnosed (reads _ h tt);
+  no-data = λ lent h. ap outcome (reads _ h tt);
+  whole-bar-rest = λ lent h. ap outcome (reads _ h tt);
 }
 
 -- ---- the mistakes to rule out
 
 pub record Mistakes : Type 0 where
-  -- a mark lost at a rest (at a barline: `sharp-waits`)
-  pub rest : alterations (read (bytes "x-C")) ≡ these (0 ∷ 1 ∷ [])
+  -- a mark lost at a rest or barline: a sharp (at a barline: `sharp-waits`)
+  pub sign-rest : (lent : Lent) → Suffices 2 1 0 lent → alterations (reading (bytes "x-C") lent) ≡ these (0 ∷ 1 ∷ [])
+  -- a `g`, a `q`, an open `qq` group
+  pub slash-rest : (lent : Lent) → Suffices 2 1 0 lent → kinds (reading (bytes "g-C") lent) ≡ these (1 ∷ 3 ∷ [])
+  pub grace-barline : (lent : Lent) → Suffices 1 1 0 lent → kinds (reading (bytes "q/C") lent) ≡ these (2 ∷ [])
+  pub group-barline : (lent : Lent) → Suffices 1 1 0 lent → kinds (reading (bytes "qq/C") lent) ≡ these (2 ∷ [])
+  -- a `^`: the next letter joins the last record, here a copy, but never a rest
+  pub caret-waits : (lent : Lent) → Suffices 3 2 1 lent → pitchCounts (reading (bytes "!C!^-/fE") lent) ≡ these (1 ∷ 0 ∷ 2 ∷ [])
+  pub caret-rest : (lent : Lent) → Suffices 3 1 0 lent → kinds (reading (bytes "C^-E") lent) ≡ these (0 ∷ 1 ∷ 0 ∷ [])
   -- a sharp carried to another octave
-  pub octave : alterations (read (bytes "xC''C")) ≡ these (1 ∷ 0 ∷ [])
+  pub octave : (lent : Lent) → Suffices 2 1 0 lent → alterations (reading (bytes "xC''C") lent) ≡ these (1 ∷ 0 ∷ [])
   -- a chord letter stepping the pattern
-  pub chord : durations (read (bytes "86C^DE")) ≡ these (5 ∷ 6 ∷ [])
-  -- a copied note fixing accidentals
-  pub copy : alterations (read (bytes "xC/iC")) ≡ these (1 ∷ 1 ∷ 0 ∷ [])
+  pub chord : (lent : Lent) → Suffices 2 1 0 lent → durations (reading (bytes "86C^DE") lent) ≡ these (5 ∷ 6 ∷ [])
+  -- a copied note fixing accidentals, by `i` and by `f`
+  pub copied-bar : (lent : Lent) → Suffices 3 2 0 lent → alterations (reading (bytes "xC/iC") lent) ≡ these (1 ∷ 1 ∷ 0 ∷ [])
+  pub copied-figure : (lent : Lent) → Suffices 3 2 1 lent → alterations (reading (bytes "!xC!/fC") lent) ≡ these (1 ∷ 1 ∷ 0 ∷ [])
   -- a clef after the data line ignored
-  pub clef : clefs (read (bytes "@data:C" ++ 10 ∷ bytes "@clef:F-4")) ≡ these (3 ∷ [])
+  pub clef : (lent : Lent) → Suffices 1 1 0 lent → clefs (reading (bytes "@data:C" ++ 10 ∷ bytes "@clef:F-4") lent) ≡ these (3 ∷ [])
 
 pub mistakes : Mistakes
-unfolding reading tokenSize clefOf keyOf meterOf countOf patternOf tokenOf itemAt itemsAfter step stateAfter dataDiagnosed linesAfter fieldsAfter linesDiagnosed fieldsOf fieldsDiagnosed tokensRefusal refusalOf
-mistakes = record { rest = refl; octave = refl; chord = refl; copy = refl; clef = refl }
+unfolding tokenSize clefOf keyOf meterOf countOf patternOf tokenOf itemAt itemsAfter step stateAfter dataDiagnosed linesAfter fieldsAfter linesDiagnosed fieldsOf fieldsDiagnosed tokensRefusal refusalOf
+mistakes = record {
+  sign-rest = λ lent h. ap alterations (reads _ h tt);
+  slash-rest = λ lent h. ap kinds (reads _ h tt);
+  grace-barline = λ lent h. ap kinds (reads _ h tt);
+  group-barline = λ lent h. ap kinds (reads _ h tt);
+  caret-waits = λ lent h. ap pitchCounts (reads _ h tt);
+  caret-rest = λ lent h. ap kinds (reads _ h tt);
+  octave = λ lent h. ap alterations (reads _ h tt);
+  chord = λ lent h. ap durations (reads _ h tt);
+  copied-bar = λ lent h. ap alterations (reads _ h tt);
+  copied-figure = λ lent h. ap alterations (reads _ h tt);
+  clef = λ lent h. ap clefs (reads _ h tt);
+}
+
+-- ---- single rules
+
+pub record Slips : Type 0 where
+  -- a fresh reading starts in octave 4 with a quarter
+  pub fresh-octave : (lent : Lent) → Suffices 1 1 0 lent → octaves (reading (bytes "C") lent) ≡ these (4 ∷ [])
+  pub fresh-length : (lent : Lent) → Suffices 1 1 0 lent → durations (reading (bytes "C") lent) ≡ these (4 ∷ [])
+  -- a run of k `,` sets octave 4-k; outside 0 to 9 it is kept
+  pub low : (lent : Lent) → Suffices 4 1 0 lent → octaves (reading (bytes ",C,,C,,,C,,,,C") lent) ≡ these (3 ∷ 2 ∷ 1 ∷ 0 ∷ [])
+  pub too-low : (lent : Lent) → Suffices 2 1 0 lent → octaves (reading (bytes ",C,,,,,C") lent) ≡ these (3 ∷ 3 ∷ [])
+  -- digits 0 9 1 2 4 8 6 3 5 7 are longa to 128th; dots cap at 3
+  pub digits : (lent : Lent) → Suffices 10 1 0 lent → durations (reading (bytes "0912486357CDEFGABCDE") lent) ≡ these (0 ∷ 1 ∷ 2 ∷ 3 ∷ 4 ∷ 5 ∷ 6 ∷ 7 ∷ 8 ∷ 9 ∷ [])
+  pub capped : (lent : Lent) → Suffices 3 1 0 lent → dots (reading (bytes "4..C4...C4....C") lent) ≡ these (2 ∷ 3 ∷ 3 ∷ [])
+  -- `-` takes the next pattern value
+  pub rest : (lent : Lent) → Suffices 2 1 0 lent → durations (reading (bytes "86-C") lent) ≡ these (5 ∷ 6 ∷ [])
+  -- the steps of the letters, from C
+  pub letters : (lent : Lent) → Suffices 7 1 0 lent → steps (reading (bytes "CDEFGAB") lent) ≡ these (0 ∷ 1 ∷ 2 ∷ 3 ∷ 4 ∷ 5 ∷ 6 ∷ [])
+  -- `x`, longer `x` runs, `b`, longer `b` runs, `n`: 1, 2, -1, -2, 0
+  pub signs : (lent : Lent) → Suffices 7 1 0 lent → alterations (reading (bytes "xCxxDxxxEbFbbGbbbAnB") lent) ≡ pos 1 ∷ pos 2 ∷ pos 2 ∷ minus 1 ∷ minus 2 ∷ minus 2 ∷ pos 0 ∷ []
+  -- a key's letter after `b` gets -1; fifths: minus the count
+  pub flat-key : (lent : Lent) → Suffices 1 1 0 lent → alterations (reading (bytes "$bB B") lent) ≡ minus 1 ∷ []
+  pub flat-fifths : (lent : Lent) → Suffices 1 1 0 lent → fifths (reading (bytes "$bB B") lent) ≡ minus 1 ∷ []
+  -- the alterations of a keysig field hold
+  pub keysig : (lent : Lent) → Suffices 1 1 0 lent → alterations (reading (bytes "@keysig:xF" ++ 10 ∷ bytes "@data:F") lent) ≡ these (1 ∷ [])
+  -- `g`: slashed, an eighth, no dots, and the pattern isn't stepped
+  pub slash-kind : (lent : Lent) → Suffices 3 1 0 lent → kinds (reading (bytes "2.4gCDE") lent) ≡ these (3 ∷ 0 ∷ 0 ∷ [])
+  pub slash-length : (lent : Lent) → Suffices 3 1 0 lent → durations (reading (bytes "2.4gCDE") lent) ≡ these (5 ∷ 3 ∷ 4 ∷ [])
+  pub slash-dots : (lent : Lent) → Suffices 3 1 0 lent → dots (reading (bytes "2.4gCDE") lent) ≡ these (0 ∷ 1 ∷ 0 ∷ [])
+  -- `qq` to `r`: grace, the pattern's value without stepping
+  pub group-kinds : (lent : Lent) → Suffices 4 1 0 lent → kinds (reading (bytes "86qqCDrEF") lent) ≡ these (2 ∷ 2 ∷ 0 ∷ 0 ∷ [])
+  pub group-lengths : (lent : Lent) → Suffices 4 1 0 lent → durations (reading (bytes "86qqCDrEF") lent) ≡ these (5 ∷ 5 ∷ 5 ∷ 6 ∷ [])
+  -- copies lose ties; the tie ends at the next opened note
+  pub tied-bar : (lent : Lent) → Suffices 5 2 0 lent → ties (reading (bytes "C+D+/iE") lent) ≡ these (1 ∷ 3 ∷ 0 ∷ 0 ∷ 2 ∷ [])
+  pub tied-figure : (lent : Lent) → Suffices 5 1 2 lent → ties (reading (bytes "!C+D+!fE") lent) ≡ these (1 ∷ 3 ∷ 0 ∷ 0 ∷ 2 ∷ [])
+  -- each pitch of a chord is written
+  pub both-pitches : (lent : Lent) → Suffices 1 1 0 lent → pitches (reading (bytes "C^E") lent) ≡ these (1 ∷ 0 ∷ 4 ∷ 0 ∷ []) ∷ these (3 ∷ 2 ∷ 4 ∷ 0 ∷ []) ∷ []
+  -- eight pitches; the ninth is refused 9
+  pub eight-pitches : (lent : Lent) → Suffices 1 1 0 lent → pitchCounts (reading (bytes "C^C^C^C^C^C^C^C") lent) ≡ these (8 ∷ [])
+  pub nine-pitches : (lent : Lent) → Suffices 1 0 0 lent → outcome (reading (bytes "C^C^C^C^C^C^C^C^C") lent) ≡ 9 ∷ 17 ∷ []
+  -- eight marks; the ninth is refused 10
+  pub eight-marks : (lent : Lent) → Suffices 1 1 0 lent → markCounts (reading (bytes "Ctttttttt") lent) ≡ these (8 ∷ [])
+  pub nine-marks : (lent : Lent) → Suffices 1 0 0 lent → outcome (reading (bytes "Cttttttttt") lent) ≡ 10 ∷ 10 ∷ []
+
+pub slips : Slips
+unfolding tokenSize clefOf keyOf meterOf countOf patternOf tokenOf itemAt itemsAfter step stateAfter dataDiagnosed linesAfter fieldsAfter linesDiagnosed fieldsOf fieldsDiagnosed tokensRefusal refusalOf
+slips = record {
+  fresh-octave = λ lent h. ap octaves (reads _ h tt);
+  fresh-length = λ lent h. ap durations (reads _ h tt);
+  low = λ lent h. ap octaves (reads _ h tt);
+  too-low = λ lent h. ap octaves (reads _ h tt);
+  digits = λ lent h. ap durations (reads _ h tt);
+  capped = λ lent h. ap dots (reads _ h tt);
+  rest = λ lent h. ap durations (reads _ h tt);
+  letters = λ lent h. ap steps (reads _ h tt);
+  signs = λ lent h. ap alterations (reads _ h tt);
+  flat-key = λ lent h. ap alterations (reads _ h tt);
+  flat-fifths = λ lent h. ap fifths (reads _ h tt);
+  keysig = λ lent h. ap alterations (reads _ h tt);
+  slash-kind = λ lent h. ap kinds (reads _ h tt);
+  slash-length = λ lent h. ap durations (reads _ h tt);
+  slash-dots = λ lent h. ap dots (reads _ h tt);
+  group-kinds = λ lent h. ap kinds (reads _ h tt);
+  group-lengths = λ lent h. ap durations (reads _ h tt);
+  tied-bar = λ lent h. ap ties (reads _ h tt);
+  tied-figure = λ lent h. ap ties (reads _ h tt);
+  both-pitches = λ lent h. ap pitches (reads _ h tt);
+  eight-pitches = λ lent h. ap pitchCounts (reads _ h tt);
+  nine-pitches = λ lent h. ap outcome (reads _ h tt);
+  eight-marks = λ lent h. ap markCounts (reads _ h tt);
+  nine-marks = λ lent h. ap outcome (reads _ h tt);
+}

@@ -1,18 +1,19 @@
--- Demand 3: stored records and the look-back agree on every letter (01, 'The look-back'). Assumes nothing.
+-- Demand 3: what stands in the note cells and the look-back agree on every letter (01, 'The look-back'). Assumes nothing.
 use Prim.Native.Nat.{ℕ, _+_}
 use mathlib.Core.Path.{_≡_}
-use mathlib.Core.Bool.{cond}
+use mathlib.Core.Bool.{Bool, false, _&&_, _||_}
 use mathlib.Core.Logic.{_⊎_}
 use mathlib.Core.Option.{some}
 use mathlib.Core.List.{List, [], _∷_, _++_, map}
+use lib.IntN.{ℤ, pos}
 use lib.ListN.{length}
-use lib.Dec.{eqb}
-use Rattle.rules.specs.Tokens.{Item, letterIn, isRest, figureIn}
-use Rattle.rules.specs.Records.{given, Pitch, Heading, Note}
-use Rattle.rules.specs.Rules.{Attributes, repeated, stateAfter}
-use Rattle.rules.specs.Words.{padded, noteCells}
-use Rattle.rules.specs.Reading.{Lent, Reading, attributesOf, tokensOf, barsOf, recordsOf}
-use Rattle.rules.specs.LookBack.{count, never, keep, isOpening, backJoins, backPitch, backHeading}
+use Rattle.rules.specs.Text.{bytes, if_then_else_, begins}
+use Rattle.rules.specs.Tokens.{Item}
+use Rattle.rules.specs.Fields.{dataOf}
+use Rattle.rules.specs.Rules.{Attributes}
+use Rattle.rules.specs.Reading.{attributesOf, tokensOf}
+use Rattle.rules.specs.Stored.{isPlace, StoredPitch, StoredHeading, StoredNote, notesIn}
+use Rattle.rules.specs.LookBack.{count, never, keep, textOf, letterOf, isDash, isOpening, backOctave, backAlter, backJoins, backKind, backLength}
 
 -- P of each element
 abbrev pub All : {A : Type 0} → (A → Type 0) → List A → Type 0
@@ -24,68 +25,75 @@ abbrev pub Some : {A : Type 0} → (A → Type 0) → List A → Type 0
 Some P [] = ⊥
 Some P (x ∷ l) = P x ⊎ Some P l
 
--- the headings of the records that have a place
-abbrev pub headingsAt : ℕ → List Note → List Heading
-headingsAt place records = keep (λ h. eqb (h .place) place) (map (λ r. r .heading) records)
-
 -- a letter token of the data, with its step, the tokens behind it and those before it
-pub record Letter (all : List Item) : Type 0 where
+pub record Letter (line : List ℕ) (all : List Item) : Type 0 where
   pub later : List Item
   pub item : Item
   pub before : List Item
   pub step : ℕ
   pub stands : all ≡ later ++ item ∷ before
-  pub isLetter : letterIn (item .token) ≡ some step
+  pub isLetter : letterOf (textOf line item) ≡ some step
 
-module _ (k : Attributes) (all : List Item) where
-  -- what the look-back says of a letter
-  abbrev pub lookedBack : Letter all → Pitch
-  lookedBack l = backPitch k (l .before) (l .item .place) (l .step)
+-- the records that have a place: their headings
+abbrev pub headingsAt : ℕ → List StoredNote → List StoredHeading
+headingsAt place notes = keep (λ h. isPlace (h .place) place) (map (λ r. r .heading) notes)
 
-  -- a pitch belongs to the letter token whose place it holds, and is what the look-back says of it
-  pub record Belongs (q : Pitch) : Type 0 where
-    pub letter : Letter all
-    pub place : q .place ≡ letter .item .place
-    pub read : q ≡ lookedBack letter
+-- ---- copies are the records with the place of an `f` or `i`
 
-  -- of the stored records, the latest first
-  pub record Agreement (records : List Note) : Type 0 where
-    -- every letter has a stored pitch, with the looked-back step, octave and alteration
-    pub has : (l : Letter all) → Some (λ r. Some (λ q. q ≡ lookedBack l) (r .pitches)) records
-    -- every stored pitch, in copies too, belongs to a letter and is what the look-back says
-    pub belongs : All (λ r. All Belongs (r .pitches)) records
-    -- to one letter only: no two tokens have one place
-    pub one : (l₁ l₂ : List Item) (x₁ x₂ : Item) (e₁ e₂ : List Item) → all ≡ l₁ ++ x₁ ∷ e₁ → all ≡ l₂ ++ x₂ ∷ e₂ → x₁ .place ≡ x₂ .place
-        → (l₁ ≡ l₂) × (x₁ ≡ x₂) × (e₁ ≡ e₂)
-    -- a letter joins a chord exactly when the look-back says so, and else opens just one record, with the looked-back kind, duration and dots
-    pub opening : (l : Letter all) → headingsAt (l .item .place) records ≡ cond (backJoins k (l .before)) [] (backHeading k (l .before) (l .item .place) ∷ [])
+-- an `f` or `i`
+abbrev pub isRepeat : List ℕ → Bool
+isRepeat text = begins (bytes "f") text || begins (bytes "i") text
 
--- ---- the note count: opened letters plus rests plus copies
+-- whether a word holds the place of one
+abbrev pub hasRepeat : List ℕ → List Item → ℤ → Bool
+hasRepeat line [] place = false
+hasRepeat line (x ∷ before) place = (isRepeat (textOf line x) && isPlace place (x .place)) || hasRepeat line before place
+
+-- the copies among stored notes
+abbrev pub copiesIn : List ℕ → List Item → List StoredNote → List StoredNote
+copiesIn line all notes = keep (λ r. hasRepeat line all (r .heading .place)) notes
 
 -- the letters that open a record
-abbrev pub openedLetters : Attributes → List Item → ℕ
-openedLetters k all = count never (isOpening k) all
+abbrev pub openedLetters : Attributes → List ℕ → List Item → ℕ
+openedLetters k line all = count never (isOpening k line) all
 
 -- the `-` tokens
-abbrev pub restTokens : List Item → ℕ
-restTokens all = count never (λ t before. isRest t) all
+abbrev pub restTokens : List ℕ → List Item → ℕ
+restTokens line all = count never (λ x before. isDash (textOf line x)) all
 
--- the records that `f` and `i` tokens store
-unfoldable pub copies : Attributes → List Item → ℕ
-copies k [] = 0
-copies k (x ∷ before) = given (figureIn (x .token)) 0 (λ f. length (repeated f (stateAfter k before))) + copies k before
+-- ---- of the fields' attributes, the data's bytes and its tokens
+
+module _ (k : Attributes) (line : List ℕ) (all : List Item) where
+  -- the pitch that the look-back gives a letter
+  abbrev pub lookedBack : Letter line all → StoredPitch
+  lookedBack l = record { place = pos (l .item .place); step = pos (l .step); octave = pos (backOctave (l .before)); alter = backAlter k line (l .before) (l .step) }
+
+  -- the heading that it gives the record that the letter opens
+  abbrev pub openedBack : Letter line all → StoredHeading
+  openedBack l = record { place = pos (l .item .place); kind = pos (backKind k line (l .before)); duration = pos (backLength k line (l .before) .duration); dots = pos (backLength k line (l .before) .dots) }
+
+  -- a pitch belongs to the letter token whose place it holds, and is what the look-back says of it
+  pub record Belongs (q : StoredPitch) : Type 0 where
+    pub letter : Letter line all
+    pub place : q .place ≡ pos (letter .item .place)
+    pub read : q ≡ lookedBack letter
+
+  -- of the stored notes
+  pub record Agreement (notes : List StoredNote) : Type 0 where
+    -- every letter has a stored pitch, with the looked-back step, octave and alteration
+    pub everyLetter : (l : Letter line all) → Some (λ r. Some (λ q. q ≡ lookedBack l) (r .pitches)) notes
+    -- every stored pitch, in copies too, belongs to a letter and is what the look-back says
+    pub belongs : All (λ r. All Belongs (r .pitches)) notes
+    -- to one letter only: no two have one place
+    pub onePlace : (l m : Letter line all) → l .item .place ≡ m .item .place → (l .later ≡ m .later) × (l .item ≡ m .item) × (l .before ≡ m .before)
+    -- a letter joins a chord exactly when the look-back says so, and else opens just one record, with the looked-back kind, duration and dots
+    pub opening : (l : Letter line all) → headingsAt (l .item .place) notes ≡ (if backJoins k line (l .before) then [] else openedBack l ∷ [])
 
 -- ---- of a text
 
--- the stored records of a text and the look-back from its tokens agree on every letter
-abbrev pub LooksBack : List ℕ → Type 0
-LooksBack text = Agreement (attributesOf text) (tokensOf text) (recordsOf text)
-
--- demand 3 of an answer r to a text
-pub record Demand3 (text : List ℕ) (r : Reading) (lent : Lent) : Type 0 where
-  -- the stored records stand first in the lent note cells; all other cells are 0
-  pub cells : r .noteCells ≡ padded (lent .notes) (noteCells (barsOf text))
-  -- they agree with the look-back
-  pub looksBack : LooksBack text
+-- demand 3 of a text, the note count and the note cells
+pub record Demand3 (text : List ℕ) (count : ℕ) (cells : List ℤ) : Type 0 where
+  -- the first records, as counted, agree with the look-back
+  pub agrees : Agreement (attributesOf text) (dataOf text .bytes) (tokensOf text) (notesIn cells count)
   -- the note count is opened letters plus rests plus copies
-  pub counted : r .notes ≡ openedLetters (attributesOf text) (tokensOf text) + restTokens (tokensOf text) + copies (attributesOf text) (tokensOf text)
+  pub counted : let line = dataOf text .bytes in let all = tokensOf text in count ≡ openedLetters (attributesOf text) line all + restTokens line all + length (copiesIn line all (notesIn cells count))

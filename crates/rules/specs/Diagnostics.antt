@@ -1,12 +1,13 @@
 -- What is diagnosed, d1 to d19 (01, 'Fields and attributes' to 'Groups and marks'); the latest first. Assumes nothing.
 use Prim.Native.Nat.{ℕ, _+_}
-use mathlib.Core.Bool.{Bool, not, cond, _&&_, _||_}
+use mathlib.Core.Bool.{Bool, not, _&&_, _||_}
 use mathlib.Core.Option.{Option}
 use mathlib.Core.List.{List, [], _∷_, _++_}
 use lib.ListN.{length}
 use lib.Dec.{leb, ltb}
+use Rattle.rules.specs.Text.{if_then_else_}
 use Rattle.rules.specs.Values.{Clef, Key, Meter}
-use Rattle.rules.specs.Tokens.{Figure, figureMark, figureRepeat, barRepeat, Marking, beamOpen, beamClose, groupOpen, groupClose, groupCount, tie, trill, Other, blank, colon, measureRest, unknown, Token, clef, key, meter, octave, duration, accidental, letter, chord, rest, barline, grace, graceGroup, figure, marking, other, Item}
+use Rattle.rules.specs.Tokens.{Figure, figureMark, figureRepeat, barRepeat, Marking, beamOpen, beamClose, groupOpen, groupClose, groupCount, tie, trill, Other, blank, colon, wholeBarRest, unknown, Token, clef, key, meter, octave, duration, accidental, letter, chord, rest, barline, grace, graceGroup, figure, marking, other, Item}
 use Rattle.rules.specs.Records.{isSome, given, isEmpty, Position, atData, Value, textPart, parentheses, number, Diagnostic}
 use Rattle.rules.specs.Rules.{State, Attributes, Group, Closing, nothing, fermata, tuplet, tooFew, closingOf, endsInNote, stateAfter}
 
@@ -15,7 +16,7 @@ diagnostic d position value = record { number = d; position = position; value = 
 
 -- nothing where the test holds, else d
 abbrev pub unless : Bool → Diagnostic → List Diagnostic
-unless fine d = cond fine [] (d ∷ [])
+unless fine d = if fine then [] else d ∷ []
 
 -- ---- values of attributes, in tokens and in fields
 
@@ -46,7 +47,7 @@ module _ (x : Item) where
 
   -- `%`, `$`, `@` are taken only while the open bar has no note; else d3
   abbrev pub ifTaken : State → List Diagnostic → List Diagnostic
-  ifTaken s ds = cond (isEmpty (s .openBar)) ds (diagnostic 3 here afterFirst ∷ [])
+  ifTaken s ds = if isEmpty (s .openBar) then ds else diagnostic 3 here afterFirst ∷ []
 
   -- below 3, d11 with the number
   abbrev pub closingDiagnosed : Closing → List Diagnostic
@@ -57,7 +58,7 @@ module _ (x : Item) where
 
   -- start beyond the bar's length, d10
   abbrev pub groupDiagnosed : State → Group → List Diagnostic
-  groupDiagnosed s g = cond (ltb (length (s .openBar)) (g .start)) (diagnostic 10 here parentheses ∷ []) (closingDiagnosed (closingOf g s))
+  groupDiagnosed s g = if ltb (length (s .openBar)) (g .start) then diagnostic 10 here parentheses ∷ [] else closingDiagnosed (closingOf g s)
 
   -- `;` without `(` or with other digits or none, d12; `)` without `(`, d13; `t` in a bar without a record, d14; `+` after no note or grace, d16
   abbrev pub markingDiagnosed : State → Marking → List Diagnostic
@@ -79,7 +80,7 @@ module _ (x : Item) where
   abbrev pub otherDiagnosed : Other → List Diagnostic
   otherDiagnosed blank = []
   otherDiagnosed colon = diagnostic 9 here allOfIt ∷ []
-  otherDiagnosed measureRest = []
+  otherDiagnosed wholeBarRest = []
   otherDiagnosed unknown = diagnostic 15 here allOfIt ∷ []
 
   -- an octave outside 0 to 9, d8; `r` outside a `qq` group, d15

@@ -34,5 +34,5 @@ pub record Framed (kind : FirstKind) (s s′ : State) : Type 0 where
   pub sameBars : s′ .bars ≡ s .bars
   -- and of the octave, the pattern with its cursor and the waiting accidental at most its own
   pub sameOctave : kind ≢ octaveKind → s′ .octave ≡ s .octave
-  pub samePattern : kind ≢ durationKind → (s′ .pattern ≡ s .pattern) × (s′ .taken ≡ s .taken)
+  pub samePattern : kind ≢ durationKind → (s′ .pattern ≡ s .pattern) × (s′ .valuesTaken ≡ s .valuesTaken)
   pub sameAccidental : kind ≢ accidentalKind → s′ .pendingAccidental ≡ s .pendingAccidental

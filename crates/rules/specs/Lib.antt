@@ -9,6 +9,7 @@ pub mod Diagnostics
 pub mod Fields
 pub mod Refusals
 pub mod Words
+pub mod Stored
 pub mod Reading
 pub mod LookBack
 pub mod Agreement

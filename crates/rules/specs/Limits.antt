@@ -25,6 +25,10 @@ markCapacity = 8
 abbrev pub dotLimit : ℕ
 dotLimit = 3
 
+-- octaves go from 0 to 9
+abbrev pub octaveLimit : ℕ
+octaveLimit = 9
+
 -- counts of `;` and the numbers of a meter go to 255
 abbrev pub countLimit : ℕ
 countLimit = 255
@@ -33,9 +37,13 @@ countLimit = 255
 abbrev pub pitchSize : ℕ
 pitchSize = 4
 
--- a note record has 12 words and its pitches: 44
+-- a note record has 12 words before its pitches
+abbrev pub firstPitch : ℕ
+firstPitch = 12
+
+-- with its pitches 44
 abbrev pub noteSize : ℕ
-noteSize = 12 + pitchSize * pitchCapacity
+noteSize = firstPitch + pitchSize * pitchCapacity
 
 -- a bar record has 10 words
 abbrev pub barSize : ℕ

@@ -1,110 +1,184 @@
--- The look-back from one letter (01, 'The look-back'): each definition scans the tokens before the letter, the latest first.
+-- The look-back from one letter (01, 'The look-back'), in its own clauses: each definition scans the tokens before the letter, the latest first.
 -- What is stored is worked out by the rules from those tokens; where there is no earlier letter, digit token or barline, the data's start is taken. Assumes nothing.
-use Prim.Native.Nat.{ℕ, suc}
-use mathlib.Core.Bool.{Bool, false, not, cond, _&&_, _||_}
+use Prim.Native.Nat.{ℕ, suc, _-_, _%_}
+use mathlib.Core.Bool.{Bool, true, false, not, _&&_, _||_}
 use mathlib.Core.Option.{Option, none, some, Option·getD}
 use mathlib.Core.List.{List, [], _∷_}
-use lib.IntN.{ℤ, pos}
-use lib.ListN.{getD}
+use lib.IntN.{ℤ, pos, negsuc}
+use lib.ListN.{length, take, drop, getD}
 use lib.Dec.{eqb, ltb}
-use Rattle.rules.specs.Values.{Length, quarter, element}
-use Rattle.rules.specs.Tokens.{Token, Item, octaveIn, durationIn, accidentalIn, letterIn, isChord, isRest, isBarline, keyIn, graceIn, graceGroupIn}
-use Rattle.rules.specs.Records.{_or_, isSome, given, isEmpty, Pitch, Heading, Note}
-use Rattle.rules.specs.Rules.{Attributes, stateAfter, stored, endsInNote, isGrace, kindOf, lengthOf, heading}
+use Rattle.rules.specs.Text.{bytes, if_then_else_, begins}
+use Rattle.rules.specs.Values.{Length}
+use Rattle.rules.specs.Tokens.{Item, octaveIn, durationIn, keyIn}
+use Rattle.rules.specs.Records.{_or_, isSome, given, isEmpty, Note}
+use Rattle.rules.specs.Rules.{Attributes, stateAfter, stored}
 
 -- ---- three ways to look back; `stop` and `what` are told a token and those before it
 
 -- the latest that `what` gives since the last `stop`
-abbrev pub latest : {A : Type 0} → (Token → List Item → Bool) → (Token → List Item → Option A) → List Item → Option A
+abbrev pub latest : {A : Type 0} → (Item → List Item → Bool) → (Item → List Item → Option A) → List Item → Option A
 latest stop what [] = none
-latest stop what (x ∷ before) = cond (stop (x .token) before) none (what (x .token) before or latest stop what before)
+latest stop what (x ∷ before) = if stop x before then none else what x before or latest stop what before
 
 -- how many tokens since the last `stop` are `what`
-abbrev pub count : (Token → List Item → Bool) → (Token → List Item → Bool) → List Item → ℕ
+abbrev pub count : (Item → List Item → Bool) → (Item → List Item → Bool) → List Item → ℕ
 count stop what [] = 0
-count stop what (x ∷ before) = cond (stop (x .token) before) 0 (cond (what (x .token) before) (suc (count stop what before)) (count stop what before))
-
--- the place of the last barline token, 0 where there is none
-abbrev pub lastBarline : List Item → ℕ
-lastBarline [] = 0
-lastBarline (x ∷ before) = cond (isBarline (x .token)) (x .place) (lastBarline before)
+count stop what (x ∷ before) = if stop x before then 0 else if what x before then suc (count stop what before) else count stop what before
 
 -- back to the data's start
-abbrev pub never : Token → List Item → Bool
-never t before = false
-
--- the previous letter
-abbrev pub isLetter : Token → List Item → Bool
-isLetter t before = isSome (letterIn t)
+abbrev pub never : Item → List Item → Bool
+never x before = false
 
 -- the elements that pass the test
 abbrev pub keep : {A : Type 0} → (A → Bool) → List A → List A
 keep p [] = []
-keep p (x ∷ xs) = cond (p x) (x ∷ keep p xs) (keep p xs)
+keep p (x ∷ xs) = if p x then x ∷ keep p xs else keep p xs
 
--- ---- octave and alteration
+-- ---- what the text of a token says
+
+-- the text of a token, by its place in the data's bytes, from 1, and its size
+abbrev pub textOf : List ℕ → Item → List ℕ
+textOf line x = take (x .size) (drop (x .place - 1) line)
+
+-- a letter, always a token A to G: its step, 0 to 6 from C
+abbrev pub letterOf : List ℕ → Option ℕ
+letterOf text =
+    if begins (bytes "C") text then some 0
+    else if begins (bytes "D") text then some 1
+    else if begins (bytes "E") text then some 2
+    else if begins (bytes "F") text then some 3
+    else if begins (bytes "G") text then some 4
+    else if begins (bytes "A") text then some 5
+    else if begins (bytes "B") text then some 6
+    else none
+
+-- `x`, `xx` or longer, `b`, `bb` or longer, `n` (1, 2, -1, -2, 0)
+abbrev pub signOf : List ℕ → Option ℤ
+signOf text =
+    if begins (bytes "xx") text then some (pos 2)
+    else if begins (bytes "x") text then some (pos 1)
+    else if begins (bytes "bb") text then some (negsuc 1)
+    else if begins (bytes "b") text then some (negsuc 0)
+    else if begins (bytes "n") text then some (pos 0)
+    else none
+
+-- `g` (true) or `q` (false)
+abbrev pub graceOf : List ℕ → Option Bool
+graceOf text =
+    if begins (bytes "g") text then some true
+    else if begins (bytes "qq") text then none
+    else if begins (bytes "q") text then some false
+    else none
+
+-- `qq` (true) or `r` (false)
+abbrev pub groupOf : List ℕ → Option Bool
+groupOf text =
+    if begins (bytes "qq") text then some true
+    else if begins (bytes "r") text then some false
+    else none
+
+-- a barline token: `/` `//` `//:` `://` `://:`
+abbrev pub isBar : List ℕ → Bool
+isBar text = begins (bytes "/") text || begins (bytes "://") text
+
+-- `^`
+abbrev pub isCaret : List ℕ → Bool
+isCaret text = begins (bytes "^") text
+
+-- `-`
+abbrev pub isDash : List ℕ → Bool
+isDash text = begins (bytes "-") text
+
+-- ---- octave and pattern
 
 -- the last in-range octave token before it, else 4
 abbrev pub backOctave : List Item → ℕ
-backOctave before = Option·getD (latest never (λ t b. octaveIn t) before) 4
+backOctave before = Option·getD (latest never (λ x b. octaveIn (x .token)) before) 4
 
--- the latest of `x`, `xx` or longer, `b`, `bb` or longer, `n` since the previous letter
-abbrev pub backSign : List Item → Option ℤ
-backSign before = latest isLetter (λ t b. accidentalIn t) before
-
--- that of the last letter so marked, same step and octave, since the last barline token
-abbrev pub backMarked : ℕ → ℕ → List Item → Option ℤ
-backMarked step octave before = latest (λ t b. isBarline t) (λ t b. given (letterIn t) none (λ n. cond (eqb step n && eqb octave (backOctave b)) (backSign b) none)) before
-
--- `^` since the previous letter
-abbrev pub backChord : List Item → Option Token
-backChord before = latest isLetter (λ t b. cond (isChord t) (some t) none) before
-
--- the last of `qq`, `r` is `qq`
-abbrev pub backGroup : List Item → Bool
-backGroup before = Option·getD (latest never (λ t b. graceGroupIn t) before) false
+-- a length without dots: 4 is a quarter, 5 an eighth
+abbrev pub undotted : ℕ → Length
+undotted duration = record { duration = duration; dots = 0 }
 
 -- the last digit token's pattern; none: a quarter
 abbrev pub backPattern : List Item → List Length
-backPattern before = Option·getD (latest never (λ t b. durationIn t) before) (quarter ∷ [])
+backPattern before = Option·getD (latest never (λ x b. durationIn (x .token)) before) (undotted 4 ∷ [])
 
-module _ (k : Attributes) where
+-- ---- letters, signs, barlines and groups in the data's bytes
+
+module _ (line : List ℕ) where
+  -- a letter
+  abbrev pub isLetter : Item → List Item → Bool
+  isLetter x before = isSome (letterOf (textOf line x))
+
+  -- the place of the last barline token, 0 where there is none
+  abbrev pub lastBarline : List Item → ℕ
+  lastBarline [] = 0
+  lastBarline (x ∷ before) = if isBar (textOf line x) then x .place else lastBarline before
+
+  -- the latest of the signs since the previous letter
+  abbrev pub backAccidental : List Item → Option ℤ
+  backAccidental before = latest isLetter (λ x b. signOf (textOf line x)) before
+
+  -- that of the last letter so marked, same step and octave, since the last barline token
+  abbrev pub backMarked : ℕ → ℕ → List Item → Option ℤ
+  backMarked step octave before = latest (λ x b. isBar (textOf line x)) (λ x b. given (letterOf (textOf line x)) none (λ n. if eqb step n && eqb octave (backOctave b) then backAccidental b else none)) before
+
+  -- `^` since the previous letter
+  abbrev pub backChord : List Item → Bool
+  backChord before = isSome (latest isLetter (λ x b. if isCaret (textOf line x) then some x else none) before)
+
+  -- the last of `qq`, `r` is `qq`
+  abbrev pub inGraceGroup : List Item → Bool
+  inGraceGroup before = Option·getD (latest never (λ x b. groupOf (textOf line x)) before) false
+
+-- there is a last note and it is no rest
+abbrev pub isNoRest : List Note → Bool
+isNoRest [] = false
+isNoRest (n ∷ ns) = not (eqb (n .heading .kind) 1)
+
+-- ---- key, chord, grace and length, from the fields' attributes and the data's bytes
+
+module _ (k : Attributes) (line : List ℕ) where
   -- the notes stored since the last barline, by their places
   abbrev pub sinceBarline : List Item → List Note
-  sinceBarline before = keep (λ n. ltb (lastBarline before) (n .heading .place)) (stored (stateAfter k before))
+  sinceBarline before = keep (λ n. ltb (lastBarline line before) (n .heading .place)) (stored (stateAfter k before))
 
   -- the key last taken, a `$` being taken exactly when no stored note's place lies between the last barline and it; a keysig field comes before any `$`
   abbrev pub backKey : List Item → List ℤ
-  backKey before = Option·getD (latest never (λ t b. cond (isEmpty (sinceBarline b)) (given (keyIn t) none (λ key. some (key .alters))) none) before) (k .keyAlters)
-
-  abbrev pub backAlter : List Item → ℕ → ℤ
-  backAlter before step = Option·getD (backSign before or backMarked step (backOctave before) before) (getD (backKey before) step (pos 0))
-
-  abbrev pub backPitch : List Item → ℕ → ℕ → Pitch
-  backPitch before place step = record { place = place; step = step; octave = backOctave before; alter = backAlter before step }
-
-  -- ---- chord, grace and length
+  backKey before = Option·getD (latest never (λ x b. if isEmpty (sinceBarline b) then given (keyIn (x .token)) none (λ key. some (key .alters)) else none) before) (k .keyAlters)
 
   -- it joins a chord exactly when `^` stands since the previous letter and the last note stored since the last barline is there and no rest
   abbrev pub backJoins : List Item → Bool
-  backJoins before = isSome (backChord before) && endsInNote (sinceBarline before)
+  backJoins before = backChord line before && isNoRest (sinceBarline before)
 
   -- else it opens a note
-  abbrev pub isOpening : Token → List Item → Bool
-  isOpening t before = isSome (letterIn t) && not (backJoins before)
+  abbrev pub isOpening : Item → List Item → Bool
+  isOpening x before = isSome (letterOf (textOf line x)) && not (backJoins before)
 
-  -- the latest `g` or `q` since the last opening letter
-  abbrev pub backMark : List Item → Option Bool
-  backMark before = latest isOpening (λ t b. graceIn t) before
+  -- the latest `g` (true) or `q` (false) since the last opening letter
+  abbrev pub backGraceSign : List Item → Option Bool
+  backGraceSign before = latest isOpening (λ x b. graceOf (textOf line x)) before
 
-  -- without one it is grace if the last of `qq`, `r` is `qq`
+  -- `g` or `q` rules; without one it is grace if the last of `qq`, `r` is `qq`
   abbrev pub backGrace : List Item → Bool
-  backGrace before = isGrace (backMark before) (backGroup before)
+  backGrace before = given (backGraceSign before) (inGraceGroup line before) (λ slashed. true)
 
-  -- the `-` tokens and non-grace openings since the last digit token
+  -- `g`, slashed (3); `q`, grace (2); without one 2 in a group, else 0: no grace
+  abbrev pub backKind : List Item → ℕ
+  backKind before = given (backGraceSign before) (if inGraceGroup line before then 2 else 0) (λ slashed. if slashed then 3 else 2)
+
+  -- k: the `-` tokens and non-grace openings since the last digit token
   abbrev pub backTaken : List Item → ℕ
-  backTaken before = count (λ t b. isSome (durationIn t)) (λ t b. isRest t || (isOpening t b && not (backGrace b))) before
+  backTaken before = count (λ x b. isSome (durationIn (x .token))) (λ x b. isDash (textOf line x) || (isOpening x b && not (backGrace b))) before
 
-  -- `g`, slashed, eighth, no dots; `q`, grace; other lengths: element k modulo the pattern's size
-  abbrev pub backHeading : List Item → ℕ → Heading
-  backHeading before place = heading place (kindOf (backMark before) (backGroup before)) (lengthOf (backMark before) (element (backPattern before) (backTaken before)))
+  -- element k modulo the pattern's size
+  abbrev pub backElement : List Item → Length
+  backElement before = let pattern = backPattern before in getD pattern (backTaken before % length pattern) (undotted 4)
+
+  -- `g`, eighth, no dots; other lengths: the element
+  abbrev pub backLength : List Item → Length
+  backLength before = given (backGraceSign before) (backElement before) (λ slashed. if slashed then undotted 5 else backElement before)
+
+  -- the sign; else that of the last letter so marked; else the key's
+  abbrev pub backAlter : List Item → ℕ → ℤ
+  backAlter before step = Option·getD (backAccidental line before or backMarked line step (backOctave before) before) (getD (backKey before) step (pos 0))

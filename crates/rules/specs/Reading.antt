@@ -9,8 +9,8 @@ use Rattle.rules.specs.Records.{given, Note, Bar, notesOf, Diagnostic}
 use Rattle.rules.specs.Rules.{Attributes, stateAfter, barsAtEnd}
 use Rattle.rules.specs.Fields.{fieldsOf, fieldsDiagnosed, dataOf}
 use Rattle.rules.specs.Diagnostics.{dataDiagnosed}
-use Rattle.rules.specs.Refusals.{Limits, Refusal, refusalOf}
-use Rattle.rules.specs.Words.{zeros, padded, noteCells, barCells, firstOnes, diagnosticCells}
+use Rattle.rules.specs.Refusals.{LentRecords, Refusal, refusalOf}
+use Rattle.rules.specs.Words.{zeros, padded, noteCells, barCells, storedDiagnostics, diagnosticCells}
 
 -- how many words are lent for notes, bars and figure, and how many diagnostic cells
 pub record Lent : Type 0 where
@@ -20,8 +20,8 @@ pub record Lent : Type 0 where
   pub diagnostics : ℕ
 
 -- only whole records count as lent
-abbrev pub limits : Lent → Limits
-limits lent = record { notes = lent .notes / noteSize; bars = lent .bars / barSize; figure = lent .figure / noteSize; diagnostics = lent .diagnostics }
+abbrev pub lentRecords : Lent → LentRecords
+lentRecords lent = record { notes = lent .notes / noteSize; bars = lent .bars / barSize; figure = lent .figure / noteSize; diagnostics = lent .diagnostics }
 
 -- ---- what the rules make of a text
 
@@ -66,7 +66,7 @@ accepted text lent = record {
   place = 0;
   notes = length (recordsOf text);
   bars = length (barsOf text);
-  diagnostics = length (firstOnes (diagnosticsOf text));
+  diagnostics = length (storedDiagnostics (diagnosticsOf text));
   noteCells = padded (lent .notes) (noteCells (barsOf text));
   barCells = padded (lent .bars) (barCells (barsOf text));
   figureCells = zeros (lent .figure);
@@ -89,4 +89,4 @@ refused lent r = record {
 
 -- a finished reading, or one refusal
 unfoldable pub reading : List ℕ → Lent → Reading
-reading text lent = given (refusalOf text (limits lent)) (accepted text lent) (refused lent)
+reading text lent = given (refusalOf text (lentRecords lent)) (accepted text lent) (refused lent)

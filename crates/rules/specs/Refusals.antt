@@ -1,19 +1,19 @@
 -- Where a reading can stop (01's table), in its order. Assumes nothing.
 use Prim.Native.Nat.{ℕ, _+_, _-_}
-use mathlib.Core.Bool.{Bool, true, false, not, cond, _&&_}
+use mathlib.Core.Bool.{Bool, true, false, not, _&&_}
 use mathlib.Core.Option.{Option, none, some}
 use mathlib.Core.List.{List, [], _∷_}
 use lib.ListN.{length}
 use lib.Dec.{leb, ltb}
 use Rattle.rules.specs.Limits.{textLimit, noteLimit, diagnosticLimit, pitchCapacity, markCapacity}
-use Rattle.rules.specs.Text.{isBlank, every, has, Part}
-use Rattle.rules.specs.Tokens.{Figure, figureMark, figureRepeat, barRepeat, Marking, beamOpen, beamClose, groupOpen, groupClose, groupCount, tie, trill, Token, Item, itemsOf, letterIn, isBarline, figureIn, markingIn, isMeasureRest}
+use Rattle.rules.specs.Text.{if_then_else_, isBlank, every, has, Part}
+use Rattle.rules.specs.Tokens.{Figure, figureMark, figureRepeat, barRepeat, Marking, beamOpen, beamClose, groupOpen, groupClose, groupCount, tie, trill, Token, Item, itemsOf, letterIn, isBarline, figureIn, markingIn, isWholeBarRest}
 use Rattle.rules.specs.Records.{_or_, isSome, given, isEmpty, Note}
-use Rattle.rules.specs.Rules.{State, Attributes, Closing, nothing, fermata, tuplet, tooFew, closingOf, isTimed, stores, joins, stateAfter, stored}
+use Rattle.rules.specs.Rules.{State, Attributes, Closing, nothing, fermata, tuplet, tooFew, closingOf, isNonGrace, stores, joins, stateAfter, stored}
 use Rattle.rules.specs.Fields.{fieldsOf, dataOf}
 
 -- how many whole records are lent for notes, bars and the figure, and how many diagnostic cells
-pub record Limits : Type 0 where
+pub record LentRecords : Type 0 where
   pub notes : ℕ
   pub bars : ℕ
   pub figure : ℕ
@@ -33,11 +33,11 @@ Check = ℕ × Bool
 -- checks run in table order
 abbrev pub firstFailing : List Check → Option ℕ
 firstFailing [] = none
-firstFailing (c ∷ cs) = cond (c .1) (some (c .0)) (firstFailing cs)
+firstFailing (c ∷ cs) = if c .1 then some (c .0) else firstFailing cs
 
 -- ---- at the entry and in the fields: place 0
 
-abbrev pub textChecks : List ℕ → Limits → List Check
+abbrev pub textChecks : List ℕ → LentRecords → List Check
 textChecks text lent =
     (1, ltb textLimit (length text))
     ∷ (2, ltb (lent .diagnostics) diagnosticLimit)
@@ -46,7 +46,7 @@ textChecks text lent =
     ∷ (5, not (isSome (fieldsOf text .dataValue)))
     ∷ []
 
-abbrev pub textRefusal : List ℕ → Limits → Option Refusal
+abbrev pub textRefusal : List ℕ → LentRecords → Option Refusal
 textRefusal text lent = given (firstFailing (textChecks text lent)) none (λ n. some (refusal n 0))
 
 -- ---- at a token: its data place
@@ -62,9 +62,9 @@ isMarkedFull [] = false
 isMarkedFull (n ∷ ns) = leb markCapacity (length (n .notations .marks))
 
 -- the records up to the last non-grace one
-abbrev pub lastTimed : List Note → List Note
-lastTimed [] = []
-lastTimed (n ∷ ns) = cond (isTimed n) (n ∷ ns) (lastTimed ns)
+abbrev pub lastNonGrace : List Note → List Note
+lastNonGrace [] = []
+lastNonGrace (n ∷ ns) = if isNonGrace n then n ∷ ns else lastNonGrace ns
 
 abbrev pub isFermata : Closing → Bool
 isFermata nothing = false
@@ -77,7 +77,7 @@ abbrev pub overMarks : Marking → State → Bool
 overMarks beamOpen s = false
 overMarks beamClose s = false
 overMarks groupOpen s = false
-overMarks groupClose s = given (s .group) false (λ g. isFermata (closingOf g s) && isMarkedFull (lastTimed (s .openBar)))
+overMarks groupClose s = given (s .group) false (λ g. isFermata (closingOf g s) && isMarkedFull (lastNonGrace (s .openBar)))
 overMarks tie s = false
 overMarks trill s = isMarkedFull (s .openBar)
 overMarks (groupCount c) s = false
@@ -89,16 +89,16 @@ overFigure lent figureRepeat s = false
 overFigure lent barRepeat s = false
 
 -- 12: the bar to store passes the lent bar records
-abbrev pub overBars : Limits → State → Bool
+abbrev pub overBars : LentRecords → State → Bool
 overBars lent s = not (isEmpty (s .openBar)) && leb (lent .bars) (length (s .bars))
 
 -- storing notes: `added` records would pass the limit
 abbrev pub passes : ℕ → ℕ → State → Bool
 passes limit added s = ltb 0 added && ltb limit (length (stored s) + added)
 
-abbrev pub tokenChecks : Limits → Token → State → List Check
+abbrev pub tokenChecks : LentRecords → Token → State → List Check
 tokenChecks lent t s = let added = length (stores 0 t s) in
-    (6, isMeasureRest t)
+    (6, isWholeBarRest t)
     ∷ (7, passes noteLimit added s)
     ∷ (8, passes (lent .notes) added s)
     ∷ (9, isSome (letterIn t) && joins s && isFull (s .openBar))
@@ -107,24 +107,24 @@ tokenChecks lent t s = let added = length (stores 0 t s) in
     ∷ (12, isBarline t && overBars lent s)
     ∷ []
 
-abbrev pub tokenRefusal : Limits → Token → State → Option ℕ
+abbrev pub tokenRefusal : LentRecords → Token → State → Option ℕ
 tokenRefusal lent t s = firstFailing (tokenChecks lent t s)
 
 -- within data, at each token from the left
-unfoldable pub tokensRefusal : Limits → Attributes → List Item → Option Refusal
+unfoldable pub tokensRefusal : LentRecords → Attributes → List Item → Option Refusal
 tokensRefusal lent k [] = none
 tokensRefusal lent k (x ∷ before) = tokensRefusal lent k before or given (tokenRefusal lent (x .token) (stateAfter k before)) none (λ n. some (refusal n (x .place)))
 
 -- ---- at the end and after the data
 
 -- 12 at the end, data length plus 1; 13, no note or rest stored
-abbrev pub endRefusal : Limits → ℕ → State → Option Refusal
-endRefusal lent size s = cond (overBars lent s) (some (refusal 12 (size + 1))) (cond (isEmpty (stored s)) (some (refusal 13 0)) none)
+abbrev pub endRefusal : LentRecords → ℕ → State → Option Refusal
+endRefusal lent size s = if overBars lent s then some (refusal 12 (size + 1)) else if isEmpty (stored s) then some (refusal 13 0) else none
 
-abbrev pub dataRefusal : Limits → Attributes → Part → Option Refusal
+abbrev pub dataRefusal : LentRecords → Attributes → Part → Option Refusal
 dataRefusal lent k d = tokensRefusal lent k (itemsOf d) or endRefusal lent (length (d .bytes)) (stateAfter k (itemsOf d))
 
 -- ---- the whole
 
-unfoldable pub refusalOf : List ℕ → Limits → Option Refusal
+unfoldable pub refusalOf : List ℕ → LentRecords → Option Refusal
 refusalOf text lent = textRefusal text lent or dataRefusal lent (fieldsOf text .attributes) (dataOf text)

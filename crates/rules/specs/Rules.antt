@@ -2,12 +2,13 @@
 -- so that what a token leaves alone can be read off. Tokens, notes, bars, pitches and marks are lists with the latest first.
 -- Refusals and diagnostics are no part of the state (Refusals, Diagnostics). Assumes nothing.
 use Prim.Native.Nat.{ℕ, zero, suc, _+_, _-_}
-use mathlib.Core.Bool.{Bool, true, false, not, cond, _&&_, _||_}
+use mathlib.Core.Bool.{Bool, true, false, not, _&&_, _||_}
 use mathlib.Core.Option.{Option, none, some, Option·getD}
 use mathlib.Core.List.{List, [], _∷_, _++_, map}
 use lib.ListN.{length, take, getD}
 use lib.IntN.{ℤ, pos}
 use lib.Dec.{eqb, leb, ltb}
+use Rattle.rules.specs.Text.{if_then_else_}
 use Rattle.rules.specs.Values.{Meter, Length, treble, quarter, eighth, element, normalOf}
 use Rattle.rules.specs.Tokens.{Figure, figureMark, figureRepeat, barRepeat, Marking, beamOpen, beamClose, groupOpen, groupClose, groupCount, tie, trill, Token, Item, clefIn, keyIn, meterIn, octaveIn, durationIn, accidentalIn, letterIn, isChord, isRest, isBarline, rightIn, leftIn, graceIn, graceGroupIn, figureIn, markingIn}
 use Rattle.rules.specs.Records.{_or_, isSome, given, isEmpty, Pitch, Heading, Notations, Note, Bar, notesOf}
@@ -36,7 +37,7 @@ pub record State : Type 0 where
   pub octave : ℕ
   -- the pattern and how many of its values were taken
   pub pattern : List Length
-  pub taken : ℕ
+  pub valuesTaken : ℕ
   -- the accidental that waits for the next letter, and the bar's accidentals
   pub pendingAccidental : Option ℤ
   pub accidentals : Accidentals
@@ -74,7 +75,7 @@ fresh k = record {
   left = 0;
   octave = 4;
   pattern = quarter ∷ [];
-  taken = 0;
+  valuesTaken = 0;
   pendingAccidental = none;
   accidentals = noAccidentals;
   chordNext = false;
@@ -93,7 +94,7 @@ fresh k = record {
 
 -- an attribute of the open bar: taken only while the bar has no note; a barline that stores the bar leaves none
 abbrev pub attributeNext : {A : Type 0} → Token → State → Option A → Option A → Option A
-attributeNext t s new old = cond (isEmpty (s .openBar)) (new or old) (cond (isBarline t) none old)
+attributeNext t s new old = if isEmpty (s .openBar) then new or old else if isBarline t then none else old
 
 -- the clef that `%` gives, the fifths of `$`, the meter that `@` gives
 abbrev pub clefGiven : Token → Option ℕ
@@ -107,27 +108,26 @@ meterGiven t = given (meterIn t) none (λ m. m)
 
 -- the alterations of a key that is taken
 abbrev pub keyNext : Token → State → List ℤ
-keyNext t s = cond (isEmpty (s .openBar)) (given (keyIn t) (s .keyAlters) (λ k. k .alters)) (s .keyAlters)
+keyNext t s = if isEmpty (s .openBar) then given (keyIn t) (s .keyAlters) (λ k. k .alters) else s .keyAlters
 
 -- the barline's left is the next bar's; an empty bar isn't stored, a left of 2 is noted on it
 abbrev pub leftNext : Token → State → ℕ
-leftNext t s = cond (isEmpty (s .openBar)) (cond (eqb (leftIn t) 2) 2 (s .left)) (cond (isBarline t) (leftIn t) (s .left))
+leftNext t s = if isEmpty (s .openBar) then (if eqb (leftIn t) 2 then 2 else s .left) else if isBarline t then leftIn t else s .left
 
 -- the first stored bar, if it has no clef, gets treble; if no key, a set key of fifths 0
-abbrev pub finished : ℕ → State → List Note → Bar
-finished right s notes = record {
-  notes = notes;
-  clef = cond (isEmpty (s .bars)) (s .clef or some treble) (s .clef);
-  fifths = cond (isEmpty (s .bars)) (s .fifths or some (pos 0)) (s .fifths);
+abbrev pub finished : ℕ → State → Bar
+finished right s = record {
+  notes = s .openBar;
+  clef = if isEmpty (s .bars) then s .clef or some treble else s .clef;
+  fifths = if isEmpty (s .bars) then s .fifths or some (pos 0) else s .fifths;
   meter = s .meter;
   left = s .left;
   right = right;
 }
 
 -- an empty bar isn't stored
-abbrev pub close : ℕ → State → List Note → List Bar
-close right s [] = s .bars
-close right s (n ∷ ns) = finished right s (n ∷ ns) ∷ s .bars
+abbrev pub close : ℕ → State → List Bar
+close right s = if isEmpty (s .openBar) then s .bars else finished right s ∷ s .bars
 
 -- ---- letters
 
@@ -140,11 +140,11 @@ pitchOf s place step = record { place = place; step = step; octave = s .octave; 
 
 -- that letter takes it and enters it at its step and octave
 abbrev pub entered : Accidentals → ℕ → ℕ → ℤ → Accidentals
-entered table step octave alter = λ m o. cond (eqb m step && eqb o octave) (some alter) (table m o)
+entered table step octave alter = λ m o. if eqb m step && eqb o octave then some alter else table m o
 
 -- all barlines clear the bar's accidentals
 abbrev pub accidentalsNext : Token → State → Accidentals
-accidentalsNext t s = cond (isBarline t) noAccidentals (given (letterIn t) (s .accidentals) (λ step. given (s .pendingAccidental) (s .accidentals) (λ alter. entered (s .accidentals) step (s .octave) alter)))
+accidentalsNext t s = if isBarline t then noAccidentals else given (letterIn t) (s .accidentals) (λ step. given (s .pendingAccidental) (s .accidentals) (λ alter. entered (s .accidentals) step (s .octave) alter))
 
 -- there is a last record and it is no rest
 abbrev pub endsInNote : List Note → Bool
@@ -176,11 +176,11 @@ lengthOf (some false) value = value
 lengthOf none value = value
 
 abbrev pub heading : ℕ → ℕ → Length → Heading
-heading place kind length = record { place = place; kind = kind; duration = length .duration; dots = length .dots }
+heading place kind value = record { place = place; kind = kind; duration = value .duration; dots = value .dots }
 
 -- the next pattern value
 abbrev pub nextValue : State → Length
-nextValue s = element (s .pattern) (s .taken)
+nextValue s = element (s .pattern) (s .valuesTaken)
 
 abbrev pub openedHeading : State → ℕ → Heading
 openedHeading s place = heading place (kindOf (s .pendingGrace) (s .graceGroup)) (lengthOf (s .pendingGrace) (nextValue s))
@@ -223,7 +223,7 @@ notesFrom start ns = take (length ns - start) ns
 
 -- the second copies the notes from there into the figure, unless the bar is now shorter
 abbrev pub figureNext : Figure → State → List Note
-figureNext figureMark s = given (s .figureStart) (s .figure) (λ start. cond (leb start (length (s .openBar))) (notesFrom start (s .openBar)) (s .figure))
+figureNext figureMark s = given (s .figureStart) (s .figure) (λ start. if leb start (length (s .openBar)) then notesFrom start (s .openBar) else s .figure)
 figureNext figureRepeat s = s .figure
 figureNext barRepeat s = s .figure
 
@@ -244,9 +244,9 @@ restNote s place = record { heading = heading place 1 (nextValue s); pitches = [
 -- the records that a token stores: an opened note, a rest, copies
 abbrev pub stores : ℕ → Token → State → List Note
 stores place t s =
-    cond (opens t s) (given (letterIn t) [] (λ step. openedNote s place step ∷ []))
-    (cond (isRest t) (restNote s place ∷ [])
-    (given (figureIn t) [] (λ f. map (copied place) (repeated f s))))
+    if opens t s then given (letterIn t) [] (λ step. openedNote s place step ∷ [])
+    else if isRest t then restNote s place ∷ []
+    else given (figureIn t) [] (λ f. map (copied place) (repeated f s))
 
 -- one more pitch in the last record
 abbrev pub addPitch : Pitch → List Note → List Note
@@ -255,18 +255,18 @@ addPitch q (n ∷ ns) = record { heading = n .heading; pitches = q ∷ n .pitche
 
 -- the open bar after a letter that joins
 abbrev pub joined : ℕ → Token → State → List Note
-joined place t s = given (letterIn t) (s .openBar) (λ step. cond (joins s) (addPitch (pitchOf s place step) (s .openBar)) (s .openBar))
+joined place t s = given (letterIn t) (s .openBar) (λ step. if joins s then addPitch (pitchOf s place step) (s .openBar) else s .openBar)
 
 -- ---- groups and marks
 
 -- a non-grace record, rests too
-abbrev pub isTimed : Note → Bool
-isTimed n = leb (n .heading .kind) 1
+abbrev pub isNonGrace : Note → Bool
+isNonGrace n = leb (n .heading .kind) 1
 
 -- how many records are non-grace
-abbrev pub timedIn : List Note → ℕ
-timedIn [] = 0
-timedIn (n ∷ ns) = cond (isTimed n) (suc (timedIn ns)) (timedIn ns)
+abbrev pub nonGraceIn : List Note → ℕ
+nonGraceIn [] = 0
+nonGraceIn (n ∷ ns) = if isNonGrace n then suc (nonGraceIn ns) else nonGraceIn ns
 
 abbrev pub withTieStart : Notations → Notations
 withTieStart d = record { tieStart = true; tieEnd = d .tieEnd; beam = d .beam; actual = d .actual; normal = d .normal; marks = d .marks }
@@ -287,7 +287,7 @@ pub data Closing : Type 0 where
 
 -- actual is the count or 3; below 3, d11
 abbrev pub tupletOf : ℕ → Closing
-tupletOf actual = cond (ltb actual 3) (tooFew actual) (tuplet actual)
+tupletOf actual = if ltb actual 3 then tooFew actual else tuplet actual
 
 -- no non-grace record: nothing. One and no count: fermata. Else a tuplet
 abbrev pub closing : ℕ → Option ℕ → Closing
@@ -304,16 +304,16 @@ closed (tooFew actual) d = d
 
 -- what the open `(` closes to
 abbrev pub closingOf : Group → State → Closing
-closingOf g s = closing (timedIn (notesFrom (g .start) (s .openBar))) (g .count)
+closingOf g s = closing (nonGraceIn (notesFrom (g .start) (s .openBar))) (g .count)
 
 -- `)`: the closing step gets only the open bar's notes from the group's start. `later` records stand after n
 abbrev pub groupClosed : Group → State → ℕ → Note → Notations
-groupClosed g s later n = cond (isTimed n && ltb later (length (s .openBar) - g .start)) (closed (closingOf g s) (n .notations)) (n .notations)
+groupClosed g s later n = if isNonGrace n && ltb later (length (s .openBar) - g .start) then closed (closingOf g s) (n .notations) else n .notations
 
 -- `}` beams the open bar's non-grace records from that length on, rests too, if two or more: the first 1, the last 3, those between 2
 abbrev pub beamClosed : ℕ → State → ℕ → Note → Notations
-beamClosed start s later n = let all = timedIn (notesFrom start (s .openBar)) in let after = timedIn (take later (s .openBar)) in
-    cond (isTimed n && ltb later (length (s .openBar) - start) && ltb 1 all) (withBeam (cond (eqb after 0) 3 (cond (eqb (suc after) all) 1 2)) (n .notations)) (n .notations)
+beamClosed start s later n = let all = nonGraceIn (notesFrom start (s .openBar)) in let after = nonGraceIn (take later (s .openBar)) in
+    if isNonGrace n && ltb later (length (s .openBar) - start) && ltb 1 all then withBeam (if eqb after 0 then 3 else if eqb (suc after) all then 1 else 2) (n .notations) else n .notations
 
 -- the notations of the open bar's record n, `later` records after it: `+` starts the tie of a last note, `t` marks the last record
 abbrev pub marked : Marking → State → ℕ → Note → Notations
@@ -321,17 +321,17 @@ marked beamOpen s later n = n .notations
 marked beamClose s later n = given (s .beamStart) (n .notations) (λ start. beamClosed start s later n)
 marked groupOpen s later n = n .notations
 marked groupClose s later n = given (s .group) (n .notations) (λ g. groupClosed g s later n)
-marked tie s later n = cond (eqb later 0 && endsInNote (s .openBar)) (withTieStart (n .notations)) (n .notations)
-marked trill s later n = cond (eqb later 0) (withMark true (n .notations)) (n .notations)
+marked tie s later n = if eqb later 0 && endsInNote (s .openBar) then withTieStart (n .notations) else n .notations
+marked trill s later n = if eqb later 0 then withMark true (n .notations) else n .notations
 marked (groupCount c) s later n = n .notations
 
 abbrev pub notationsNext : Token → State → ℕ → Note → Notations
 notationsNext t s later n = given (markingIn t) (n .notations) (λ m. marked m s later n)
 
 -- the records with new notations; `later` records stand after the first
-abbrev pub renotated : (ℕ → Note → Notations) → ℕ → List Note → List Note
-renotated f later [] = []
-renotated f later (n ∷ ns) = record { heading = n .heading; pitches = n .pitches; notations = f later n } ∷ renotated f (suc later) ns
+abbrev pub withNotations : (ℕ → Note → Notations) → ℕ → List Note → List Note
+withNotations f later [] = []
+withNotations f later (n ∷ ns) = record { heading = n .heading; pitches = n .pitches; notations = f later n } ∷ withNotations f (suc later) ns
 
 -- `{` notes the open bar's length as a start; `}` uses it up
 abbrev pub beamStartNext : Marking → State → Option ℕ
@@ -373,7 +373,7 @@ tieNext (groupCount c) s = s .tiePending
 
 -- the open bar after a token: what it stores, behind what was there
 abbrev pub openBarNext : ℕ → Token → State → List Note
-openBarNext place t s = cond (isBarline t) [] (stores place t s ++ renotated (notationsNext t s) 0 (joined place t s))
+openBarNext place t s = if isBarline t then [] else stores place t s ++ withNotations (notationsNext t s) 0 (joined place t s)
 
 -- in the order of the published code: clef, key, meter, octave, duration, accidental, note, then the rest
 unfoldable pub step : Item → State → State
@@ -385,19 +385,19 @@ step x s = let t = x .token in let place = x .place in record {
   left = leftNext t s;
   octave = Option·getD (octaveIn t) (s .octave);
   pattern = Option·getD (durationIn t) (s .pattern);
-  taken = cond (isSome (durationIn t)) 0 (cond (steps t s) (suc (s .taken)) (s .taken));
-  pendingAccidental = cond (isSome (letterIn t)) none (accidentalIn t or s .pendingAccidental);
+  valuesTaken = if isSome (durationIn t) then 0 else if steps t s then suc (s .valuesTaken) else s .valuesTaken;
+  pendingAccidental = if isSome (letterIn t) then none else accidentalIn t or s .pendingAccidental;
   accidentals = accidentalsNext t s;
-  chordNext = cond (isSome (letterIn t)) false (isChord t || s .chordNext);
-  pendingGrace = cond (opens t s) none (graceIn t or s .pendingGrace);
+  chordNext = if isSome (letterIn t) then false else isChord t || s .chordNext;
+  pendingGrace = if opens t s then none else graceIn t or s .pendingGrace;
   graceGroup = Option·getD (graceGroupIn t) (s .graceGroup);
   openBar = openBarNext place t s;
-  bars = cond (isBarline t) (close (rightIn t) s (s .openBar)) (s .bars);
+  bars = if isBarline t then close (rightIn t) s else s .bars;
   figureStart = given (figureIn t) (s .figureStart) (λ f. figureStartNext f s);
   figure = given (figureIn t) (s .figure) (λ f. figureNext f s);
   beamStart = given (markingIn t) (s .beamStart) (λ m. beamStartNext m s);
   group = given (markingIn t) (s .group) (λ m. groupNext m s);
-  tiePending = cond (opens t s || isRest t) false (given (markingIn t) (s .tiePending) (λ m. tieNext m s));
+  tiePending = if opens t s || isRest t then false else given (markingIn t) (s .tiePending) (λ m. tieNext m s);
 }
 
 -- the state after tokens, the latest first
@@ -411,4 +411,4 @@ stored s = s .openBar ++ notesOf (s .bars)
 
 -- the end closes a non-empty bar, 0 and 0
 abbrev pub barsAtEnd : State → List Bar
-barsAtEnd s = close 0 s (s .openBar)
+barsAtEnd s = close 0 s

@@ -19,14 +19,10 @@ if t then x else y = cond t x y
 
 -- ---- classes of bytes
 
--- whether b is one of these bytes, or the test before them holds
-abbrev pub orAmong : Bool → List ℕ → ℕ → Bool
-orAmong before [] b = before
-orAmong before (k ∷ ks) b = orAmong (before || eqb b k) ks b
-
--- whether b is one of these bytes
+-- whether b is one of these
 abbrev pub among : List ℕ → ℕ → Bool
-among ks b = orAmong false ks b
+among [] b = false
+among (k ∷ ks) b = eqb b k || among ks b
 
 -- blank is 9 to 13 and 32
 abbrev pub isBlank : ℕ → Bool

@@ -22,7 +22,7 @@ pub data Marking : Type 0 where
 
 -- blanks, a lone `:`, an `=` token, a token without a rule
 pub data Other : Type 0 where
-  blank colon measureRest unknown : Other
+  blank colon wholeBarRest unknown : Other
 
 -- clef, key, meter: `%`, `$`, `@` with what their values say; octave: a run of `'` or `,` with the octave that it sets, if it is in range;
 -- duration: a digit token's pattern; accidental: `x`, `xx`, `b`, `bb`, `n` with 1, 2, -1, -2, 0; letter: its step; chord: `^`; rest: `-`;
@@ -80,7 +80,7 @@ tokenOf b bs = let size = 1 + length bs in
     else if eqb b (code ")") then marking groupClose
     else if eqb b (code "+") then marking tie
     else if eqb b (code "t") then marking trill
-    else if eqb b (code "=") then other measureRest
+    else if eqb b (code "=") then other wholeBarRest
     else if isBlank b then other blank
     else other unknown
 
@@ -170,5 +170,5 @@ figureIn = elim [ clef c ↦ none | key k ↦ none | meter m ↦ none | octave o
 abbrev pub markingIn : Token → Option Marking
 markingIn = elim [ clef c ↦ none | key k ↦ none | meter m ↦ none | octave o ↦ none | duration p ↦ none | accidental a ↦ none | letter n ↦ none | chord ↦ none | rest ↦ none | barline r l ↦ none | grace g ↦ none | graceGroup g ↦ none | figure f ↦ none | marking m ↦ some m | other o ↦ none ]
 
-abbrev pub isMeasureRest : Token → Bool
-isMeasureRest = elim [ clef c ↦ false | key k ↦ false | meter m ↦ false | octave o ↦ false | duration p ↦ false | accidental a ↦ false | letter n ↦ false | chord ↦ false | rest ↦ false | barline r l ↦ false | grace g ↦ false | graceGroup g ↦ false | figure f ↦ false | marking m ↦ false | other o ↦ elim o [ blank ↦ false | colon ↦ false | measureRest ↦ true | unknown ↦ false ] ]
+abbrev pub isWholeBarRest : Token → Bool
+isWholeBarRest = elim [ clef c ↦ false | key k ↦ false | meter m ↦ false | octave o ↦ false | duration p ↦ false | accidental a ↦ false | letter n ↦ false | chord ↦ false | rest ↦ false | barline r l ↦ false | grace g ↦ false | graceGroup g ↦ false | figure f ↦ false | marking m ↦ false | other o ↦ elim o [ blank ↦ false | colon ↦ false | wholeBarRest ↦ true | unknown ↦ false ] ]

@@ -1,5 +1,5 @@
 -- What the values of tokens and fields say (01, 'Fields and attributes', 'Letters and rests', 'Groups and marks'). Assumes nothing.
-use Prim.Native.Nat.{ℕ, zero, suc, _+_, _-_, _*_, _%_}
+use Prim.Native.Nat.{ℕ, _+_, _-_, _*_, _%_}
 use Prim.Native.Char.{code}
 use mathlib.Core.Bool.{Bool, true, false, not, _&&_, _||_}
 use mathlib.Core.Option.{Option, none, some}
@@ -7,7 +7,7 @@ use mathlib.Core.List.{List, [], _∷_}
 use lib.ListN.{length, take, drop, getD, set, replicate}
 use lib.IntN.{ℤ, pos, negsuc, negℤ}
 use lib.Dec.{eqb, leb, ltb}
-use Rattle.rules.specs.Limits.{dotLimit, countLimit}
+use Rattle.rules.specs.Limits.{dotLimit, octaveLimit, countLimit}
 use Rattle.rules.specs.Text.{bytes, if_then_else_, among, isDigit, isNoteLetter, runLength, every, has, begins, isText, indexIn}
 
 -- ---- clef
@@ -54,20 +54,22 @@ pub record Key : Type 0 where
   pub fifths : ℤ
   pub standard : Bool
 
--- the nearest sign before the next byte: 0 none, 1 `x`, 2 `b`
-abbrev pub signAfter : ℕ → ℕ → ℕ
-signAfter s b = if eqb b (code "x") then 1 else if eqb b (code "b") then 2 else s
+-- the nearest sign before the next byte: 1 (`x`) or -1 (`b`), none before any sign
+abbrev pub signAfter : Option ℤ → ℕ → Option ℤ
+signAfter s b = if eqb b (code "x") then some (pos 1) else if eqb b (code "b") then some (negsuc 0) else s
 
 -- a letter A to G after a sign
-abbrev pub isNamed : ℕ → ℕ → Bool
-isNamed s b = isNoteLetter b && not (eqb s 0)
+abbrev pub isNamed : Option ℤ → ℕ → Bool
+isNamed none b = false
+isNamed (some sign) b = isNoteLetter b
 
--- it gets 1 (`x`) or -1 (`b`)
-abbrev pub named : List ℤ → ℕ → ℕ → List ℤ
-named a s b = if isNamed s b then set a (stepOf b) (if eqb s 1 then pos 1 else negsuc 0) else a
+-- it gets 1 or -1 by that sign
+abbrev pub named : List ℤ → Option ℤ → ℕ → List ℤ
+named a none b = a
+named a (some sign) b = if isNoteLetter b then set a (stepOf b) sign else a
 
 -- the steps' alterations: the last naming counts
-abbrev pub altersFrom : List ℤ → ℕ → List ℕ → List ℤ
+abbrev pub altersFrom : List ℤ → Option ℤ → List ℕ → List ℤ
 altersFrom a s [] = a
 altersFrom a s (b ∷ bs) = altersFrom (named a s b) (signAfter s b) bs
 
@@ -76,36 +78,36 @@ abbrev pub noAlters : List ℤ
 noAlters = replicate 7 (pos 0)
 
 -- those letters in order
-abbrev pub lettersFrom : ℕ → List ℕ → List ℕ
+abbrev pub lettersFrom : Option ℤ → List ℕ → List ℕ
 lettersFrom s [] = []
 lettersFrom s (b ∷ bs) = if isNamed s b then b ∷ lettersFrom (signAfter s b) bs else lettersFrom (signAfter s b) bs
 
 -- a sign, a space or a letter after a sign
-abbrev pub isExpected : ℕ → ℕ → Bool
+abbrev pub isExpected : Option ℤ → ℕ → Bool
 isExpected s b = (eqb b (code "x") || eqb b (code "b")) || eqb b 32 || isNamed s b
 
 -- any other byte, a letter before any sign too, gives d6
-abbrev pub allExpected : ℕ → List ℕ → Bool
+abbrev pub allExpected : Option ℤ → List ℕ → Bool
 allExpected s [] = true
 allExpected s (b ∷ bs) = isExpected s b && allExpected (signAfter s b) bs
 
 -- a beginning of FCGDAEB, no `b` in the value
 abbrev pub areSharps : List ℕ → Bool
-areSharps xs = begins (lettersFrom 0 xs) (bytes "FCGDAEB") && not (has (λ b. eqb b (code "b")) xs)
+areSharps xs = begins (lettersFrom none xs) (bytes "FCGDAEB") && not (has (λ b. eqb b (code "b")) xs)
 
 -- a beginning of BEADGCF, no `x`
 abbrev pub areFlats : List ℕ → Bool
-areFlats xs = begins (lettersFrom 0 xs) (bytes "BEADGCF") && not (has (λ b. eqb b (code "x")) xs)
+areFlats xs = begins (lettersFrom none xs) (bytes "BEADGCF") && not (has (λ b. eqb b (code "x")) xs)
 
 abbrev pub keyWith : List ℕ → ℤ → Bool → Key
-keyWith xs f s = record { alters = altersFrom noAlters 0 xs; fifths = f; standard = s }
+keyWith xs f s = record { alters = altersFrom noAlters none xs; fifths = f; standard = s }
 
 -- fifths, by those letters in order: none, 0; sharps, their count; flats, minus it; else 0 and d6. The alterations always hold
 unfoldable pub keyOf : List ℕ → Key
-keyOf xs = let n = length (lettersFrom 0 xs) in
-    if eqb n 0 then keyWith xs (pos 0) (allExpected 0 xs)
-    else if areSharps xs then keyWith xs (pos n) (allExpected 0 xs)
-    else if areFlats xs then keyWith xs (negℤ (pos n)) (allExpected 0 xs)
+keyOf xs = let n = length (lettersFrom none xs) in
+    if eqb n 0 then keyWith xs (pos 0) (allExpected none xs)
+    else if areSharps xs then keyWith xs (pos n) (allExpected none xs)
+    else if areFlats xs then keyWith xs (negℤ (pos n)) (allExpected none xs)
     else keyWith xs (pos 0) false
 
 -- ---- numbers
@@ -127,13 +129,17 @@ pub record Meter : Type 0 where
   pub denominator : ℕ
   pub symbol : ℕ
 
--- an optional `+` and digits
+-- what stands behind an optional `+`
 abbrev pub afterPlus : List ℕ → List ℕ
 afterPlus [] = []
 afterPlus (b ∷ bs) = if eqb b (code "+") then bs else b ∷ bs
 
+-- the powers of two up to 255, the largest first
+abbrev pub powersOfTwo : List ℕ
+powersOfTwo = 128 ∷ 64 ∷ 32 ∷ 16 ∷ 8 ∷ 4 ∷ 2 ∷ 1 ∷ []
+
 abbrev pub isPowerOfTwo : ℕ → Bool
-isPowerOfTwo n = among (1 ∷ 2 ∷ 4 ∷ 8 ∷ 16 ∷ 32 ∷ 64 ∷ 128 ∷ []) n
+isPowerOfTwo n = among powersOfTwo n
 
 -- two numbers, 1 to 255, the second a power of two, no symbol
 abbrev pub plainMeter : Option ℕ → Option ℕ → Option Meter
@@ -155,11 +161,11 @@ meterOf xs =
 
 -- ---- octave, rhythm, accidental
 
--- a run of k `'` sets octave 3+k; none beyond 9 (d8)
+-- a run of k `'` sets octave 3+k; none outside 0 to 9 (d8)
 abbrev pub raisedOctave : ℕ → Option ℕ
-raisedOctave k = if leb (3 + k) 9 then some (3 + k) else none
+raisedOctave k = if leb (3 + k) octaveLimit then some (3 + k) else none
 
--- of k `,` 4-k; none below 0 (d8)
+-- of k `,` 4-k; none outside 0 to 9 (d8)
 abbrev pub loweredOctave : ℕ → Option ℕ
 loweredOctave k = if leb k 4 then some (4 - k) else none
 
@@ -207,11 +213,11 @@ flattened k = if eqb k 1 then negsuc 0 else negsuc 1
 
 -- ---- tuplets
 
--- the largest power of two not above n, from p on, doubling at most f times
-abbrev pub powerWithin : ℕ → ℕ → ℕ → ℕ
-powerWithin zero n p = p
-powerWithin (suc f) n p = if leb (p + p) n then powerWithin f n (p + p) else p
+-- the first of these that is not above n
+abbrev pub firstWithin : ℕ → List ℕ → ℕ
+firstWithin n [] = 0
+firstWithin n (p ∷ ps) = if leb p n then p else firstWithin n ps
 
 -- normal is the largest power of two not above actual less one
 abbrev pub normalOf : ℕ → ℕ
-normalOf actual = powerWithin 8 (actual - 1) 1
+normalOf actual = firstWithin (actual - 1) powersOfTwo

@@ -1,11 +1,12 @@
 -- Records as words in the lent cells (01, 'The lent records'). Assumes nothing.
 use Prim.Native.Nat.{ℕ, zero, suc, _+_, _-_, _*_}
-use mathlib.Core.Bool.{Bool, cond}
+use mathlib.Core.Bool.{Bool}
 use mathlib.Core.Option.{Option, none, some, Option·getD}
 use mathlib.Core.List.{List, [], _∷_, _++_, map}
 use lib.IntN.{ℤ, pos}
 use lib.ListN.{length, take, drop, replicate}
 use Rattle.rules.specs.Limits.{pitchCapacity, pitchSize, diagnosticLimit}
+use Rattle.rules.specs.Text.{if_then_else_}
 use Rattle.rules.specs.Values.{Meter}
 use Rattle.rules.specs.Records.{Pitch, Notations, Note, Bar, notesOf, Position, atLine, atField, atData, Value, textPart, parentheses, number, Diagnostic}
 
@@ -31,7 +32,7 @@ pitchWords q = pos (q .place) ∷ pos (q .step) ∷ pos (q .octave) ∷ q .alter
 
 -- ties (1 start, 2 end, 3 both)
 abbrev pub tiesWord : Notations → ℕ
-tiesWord d = cond (d .tieStart) (cond (d .tieEnd) 3 1) (cond (d .tieEnd) 2 0)
+tiesWord d = if d .tieStart then (if d .tieEnd then 3 else 1) else if d .tieEnd then 2 else 0
 
 abbrev pub powerOfTwo : ℕ → ℕ
 powerOfTwo zero = 1
@@ -40,7 +41,7 @@ powerOfTwo (suc n) = powerOfTwo n + powerOfTwo n
 -- marks, bit i being mark i in order of arrival (1 trill, 0 fermata)
 abbrev pub marksWord : List Bool → ℕ
 marksWord [] = 0
-marksWord (m ∷ ms) = marksWord ms + cond m (powerOfTwo (length ms)) 0
+marksWord (m ∷ ms) = marksWord ms + (if m then powerOfTwo (length ms) else 0)
 
 -- unused pitches are 0
 abbrev pub pitchCells : List Pitch → List ℤ
@@ -83,7 +84,7 @@ noteCells bs = cells noteWords (numbered bs)
 -- ---- a bar's words
 
 -- a bar and the number of its first note, from 0
-pub record Placed : Type 0 where
+pub record BarFrom : Type 0 where
   pub first : ℕ
   pub bar : Bar
 
@@ -98,17 +99,17 @@ meterWords none = pos 0 ∷ pos 0 ∷ pos 0 ∷ []
 meterWords (some m) = pos (m .numerator) ∷ pos (m .denominator) ∷ pos (m .symbol) ∷ []
 
 -- first note, note count, clef, key set, fifths, numerator, denominator, symbol, left, right
-abbrev pub barWords : Placed → List ℤ
+abbrev pub barWords : BarFrom → List ℤ
 barWords p = let b = p .bar in
     pos (p .first) ∷ pos (length (b .notes)) ∷ pos (Option·getD (b .clef) 0) ∷ keyWords (b .fifths) ++ meterWords (b .meter) ++ pos (b .left) ∷ pos (b .right) ∷ []
 
 -- first notes count from 0
-abbrev pub placed : List Bar → List Placed
-placed [] = []
-placed (b ∷ bs) = record { first = length (notesOf bs); bar = b } ∷ placed bs
+abbrev pub barsFrom : List Bar → List BarFrom
+barsFrom [] = []
+barsFrom (b ∷ bs) = record { first = length (notesOf bs); bar = b } ∷ barsFrom bs
 
 abbrev pub barCells : List Bar → List ℤ
-barCells bs = cells barWords (placed bs)
+barCells bs = cells barWords (barsFrom bs)
 
 -- ---- a diagnostic's words
 
@@ -129,8 +130,8 @@ abbrev pub diagnosticWords : Diagnostic → List ℤ
 diagnosticWords d = pos (d .number) ∷ positionWords (d .position) ++ valueWords (d .value)
 
 -- the first 1,024 are stored, later ones dropped: the earliest, which stand last
-abbrev pub firstOnes : List Diagnostic → List Diagnostic
-firstOnes ds = drop (length ds - diagnosticLimit) ds
+abbrev pub storedDiagnostics : List Diagnostic → List Diagnostic
+storedDiagnostics ds = drop (length ds - diagnosticLimit) ds
 
 abbrev pub diagnosticCells : List Diagnostic → List ℤ
-diagnosticCells ds = cells diagnosticWords (firstOnes ds)
+diagnosticCells ds = cells diagnosticWords (storedDiagnostics ds)

@@ -15,9 +15,9 @@ use Rattle.rules.specs.Records.{_or_, given, isEmpty}
 use Rattle.rules.specs.Rules as rules
 use Rattle.rules.specs.Fields.{noFields}
 use Rattle.values.specs.declared.rhythm.Barline.{Barline}
-use Rattle.values.specs.declared.pae.Attributes.{Attributes}
-use Rattle.values.specs.declared.pae.Pae.{Pae}
-use Rattle.values.specs.Pae.{freshPae}
+use Rattle.limits.specs.declared.Attributes.{Attributes}
+use Rattle.limits.specs.declared.Pae.{Pae}
+use Rattle.limits.specs.Pae.{freshPae}
 use Rattle.decode.specs.declared.Token.{Token}
 use Rattle.decode.specs.declared.Token.the-variants as t
 use Rattle.steps.specs.State.{hasContent, clefSet, keySet, meterSet, leftSet, barAttributes}

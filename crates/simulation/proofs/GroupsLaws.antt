@@ -13,8 +13,8 @@ use Rattle.rules.specs.Text.{every, isDigit}
 use Rattle.rules.specs.Values.{decimalFrom, countOf}
 use Rattle.rules.specs.Records.{given}
 use Rattle.rules.specs.Rules as rules
-use Rattle.values.specs.declared.pae.Groups.{Groups}
-use Rattle.values.specs.Pae.{freshPae}
+use Rattle.limits.specs.declared.Groups.{Groups}
+use Rattle.limits.specs.Pae.{freshPae}
 use Rattle.decode.specs.declared.Figure.{Figure}
 use Rattle.decode.specs.declared.Figure.the-variants as f
 use Rattle.decode.specs.declared.Marking.{Marking}

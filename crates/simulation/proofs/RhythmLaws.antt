@@ -14,7 +14,7 @@ use Rattle.rules.specs.Tokens.{tokenOf, durationIn}
 use Rattle.rules.specs.Records.{isSome}
 use Rattle.rules.specs.Rules as rules
 use Rattle.values.specs.declared.rhythm.Cursor.{Cursor}
-use Rattle.values.specs.declared.pae.Voice.{Voice}
+use Rattle.limits.specs.declared.Voice.{Voice}
 use Rattle.values.specs.Rhythm.{lengthIn, keptLimit, Keeping, quarterPattern, patternAt, firstOf, valueAt, Standing}
 use Rattle.values.proofs.PatternLaws.{take-value, begin-pattern, begin-quarter}
 use Rattle.decode.specs.declared.Token.{Token}
@@ -84,7 +84,7 @@ Untimed token = elim token [
 ]
 
 -- 'A fresh reading starts .. with a quarter'
-pub fresh-stands : (text kept : List ℕ) {k : Keeping} → length kept ≡ keptLimit → k ≡ quarterPattern kept → (a : rules.Attributes) → Standing text k (firstOf (k .pattern)) (rules.fresh a .pattern) (rules.fresh a .taken)
+pub fresh-stands : (text kept : List ℕ) {k : Keeping} → length kept ≡ keptLimit → k ≡ quarterPattern kept → (a : rules.Attributes) → Standing text k (firstOf (k .pattern)) (rules.fresh a .pattern) (rules.fresh a .valuesTaken)
 fresh-stands text kept full e a = begin-quarter text kept full e
 
 module _ (place offset size b : ℕ) (value text : List ℕ) (s : rules.State) where
@@ -93,7 +93,7 @@ module _ (place offset size b : ℕ) (value text : List ℕ) (s : rules.State) w
 
   -- the pattern k with its cursor c is right after a token
   abbrev pub Stands : Token → Keeping → Cursor → Type 0
-  Stands token k c = Standing text k c (next token .pattern) (next token .taken)
+  Stands token k c = Standing text k c (next token .pattern) (next token .valuesTaken)
 
   -- 'a digit token replaces the pattern': the cursor stands at its first element
   pub duration-stands : (from to : ℕ) (kept : List ℕ) {k : Keeping} → to ≤ length text → length kept ≡ keptLimit → k ≡ patternAt text from to kept → slice from to text ≡ b ∷ value → isDigit b ≡ true
@@ -101,7 +101,7 @@ module _ (place offset size b : ℕ) (value text : List ℕ) (s : rules.State) w
   unfolding rules.step
   duration-stands from to kept h full e f d = begin-pattern text from to kept h full e f d
 
-  module _ {k : Keeping} {c : Cursor} (w : Standing text k c (s .pattern) (s .taken)) where
+  module _ {k : Keeping} {c : Cursor} (w : Standing text k c (s .pattern) (s .valuesTaken)) where
     -- the value at the cursor is 'the next pattern value'
     pub value-agrees : lengthIn (valueAt text k c) ≡ rules.nextValue s
     value-agrees = take-value w .0

@@ -10,8 +10,8 @@ use borrow.Author.Tests.{ne-eqb}
 use Rattle.rules.specs.Rules as rules
 use Rattle.values.specs.declared.rhythm.Octave.{Octave}
 use Rattle.values.specs.declared.rhythm.Octave.the-variants as o
-use Rattle.values.specs.declared.pae.Voice.{Voice}
-use Rattle.values.specs.Pae.{freshPae}
+use Rattle.limits.specs.declared.Voice.{Voice}
+use Rattle.limits.specs.Pae.{freshPae}
 use Rattle.decode.specs.Decode.{FineOctave, Fine}
 use Rattle.decode.specs.declared.Marking.{Marking}
 use Rattle.decode.specs.declared.Marking.the-variants as m

@@ -2,7 +2,7 @@
 use Prim.Native.Nat.{ℕ, _+_, _*_, _≤_}
 use native.Mathlib.Omega.{arith}
 use mathlib.Core.Path.{_≡_, refl, sym, _∙_}
-use mathlib.Core.Bool.{Bool, true, false, cond, _&&_, _||_}
+use mathlib.Core.Bool.{Bool, true, false, not, cond, _&&_, _||_}
 use mathlib.Core.Option.{none, some, Option·getD}
 use mathlib.Core.List.{List, [], _∷_}
 use lib.IntN.{ℤ, pos}
@@ -11,22 +11,22 @@ use lib.Dec.{eqb}
 use borrow.Author.Tests.{eqb-true, eq-eqb, ne-eqb}
 use Rattle.rules.specs.Limits.{barSize}
 use Rattle.rules.specs.Values.{treble}
-use Rattle.rules.specs.Records.{_or_, isEmpty, Note, Bar, notesOf}
+use Rattle.rules.specs.Records.{_or_, isEmpty, Bar, notesOf}
 use Rattle.rules.specs.Rules as rules
-use Rattle.rules.specs.Words.{Placed, placed, keyWords, meterWords, barWords}
+use Rattle.rules.specs.Words.{BarFrom, barsFrom, keyWords, meterWords, barWords}
 use Rattle.records.specs.Cells.{withRecord}
 use Rattle.records.proofs.BarLaws.{Says, bar-words, length-bar}
 use Rattle.records.proofs.CellLaws.{padded-added}
-use Rattle.values.specs.declared.pae.Attributes.{Attributes}
-use Rattle.values.specs.declared.pae.Counts.{Counts}
+use Rattle.limits.specs.declared.Attributes.{Attributes}
+use Rattle.limits.specs.declared.Counts.{Counts}
 use Rattle.steps.specs.State.{hasContent}
 use Rattle.steps.specs.Bars.{barOf, storedBars}
 use Rattle.steps.specs.Relation.{Attributed, Stored, Barred, numberIn, meterIn}
-use Rattle.steps.proofs.StoredBar.{content-agrees}
+use Rattle.steps.proofs.CountLaws.{content}
 
-length-placed : (bs : List Bar) → length (placed bs) ≡ length bs
-length-placed [] = refl
-length-placed (b ∷ bs) = rw (length-placed bs)
+length-barsFrom : (bs : List Bar) → length (barsFrom bs) ≡ length bs
+length-barsFrom [] = refl
+length-barsFrom (b ∷ bs) = rw (length-barsFrom bs)
 
 -- no bar is stored
 first-agrees : (bs : List Bar) (n : ℕ) → n ≡ length bs → eqb n 0 ≡ isEmpty bs
@@ -62,8 +62,8 @@ meter-said a h = go (eqb (a .denominator) 0) refl
 
 module _ {size : ℕ} {c : Counts} {a : Attributes} {notes : List ℤ} (s : rules.State) (right : ℕ) (att : Attributed a s) where
   -- the open bar's numbers say the rules' bar
-  says : (ns : List Note) → Stored size ns (s .bars) c notes → Says (barOf c a right) (record { first = length (notesOf (s .bars)); bar = rules.finished right s ns })
-  says ns r = record {
+  says : Stored size (s .openBar) (s .bars) c notes → Says (barOf c a right) (record { first = length (notesOf (s .bars)); bar = rules.finished right s })
+  says r = record {
     first = r .first;
     count = omega (arith, r .count, r .first);
     clef = rw (first-agrees (s .bars) (c .bars) (r .bars), att .clef) (clef-said (isEmpty (s .bars)) (a .clef));
@@ -74,14 +74,17 @@ module _ {size : ℕ} {c : Counts} {a : Attributes} {notes : List ℤ} (s : rule
   }
 
   -- the bars with it
-  pub bars-closed : {barsSize : ℕ} {bars : List ℤ} (ns : List Note) → Stored size ns (s .bars) c notes → Barred barsSize (s .bars) bars → (hasContent c ≡ true → length (s .bars) * barSize + barSize ≤ barsSize)
-      → Barred barsSize (rules.close right s ns) (storedBars c a right bars)
-  bars-closed [] r q room = rw (content-agrees [] r) q
-  bars-closed {barsSize} {bars} (n ∷ ns) r q room =
-      let h = room (content-agrees (n ∷ ns) r) in
-      let e = length-placed (s .bars) in
-      let x : Placed = record { first = length (notesOf (s .bars)); bar = rules.finished right s (n ∷ ns) } in
-      rw (content-agrees (n ∷ ns) r) (record {
-        written = (λ i. withRecord barSize (q .written i) ((r .bars ∙ sym e) i) (bar-words (barOf c a right) x (says (n ∷ ns) r) i)) ∙ padded-added barWords barSize length-bar barsSize x (placed (s .bars)) (omega arith);
-        fits = omega arith;
-      })
+  pub bars-closed : {barsSize : ℕ} {bars : List ℤ} → Stored size (s .openBar) (s .bars) c notes → Barred barsSize (s .bars) bars → (hasContent c ≡ true → length (s .bars) * barSize + barSize ≤ barsSize)
+      → Barred barsSize (rules.close right s) (storedBars c a right bars)
+  bars-closed {barsSize} {bars} r q room = go (isEmpty (s .openBar)) (content (s .openBar) r)
+    where
+      go : (empty : Bool) → hasContent c ≡ not empty → Barred barsSize (cond empty (s .bars) (rules.finished right s ∷ s .bars)) (storedBars c a right bars)
+      go true e = rw e q
+      go false e =
+          let h = room e in
+          let l = length-barsFrom (s .bars) in
+          let x : BarFrom = record { first = length (notesOf (s .bars)); bar = rules.finished right s } in
+          rw e (record {
+            written = (λ i. withRecord barSize (q .written i) ((r .bars ∙ sym l) i) (bar-words (barOf c a right) x (says r) i)) ∙ padded-added barWords barSize length-bar barsSize x (barsFrom (s .bars)) (omega arith);
+            fits = omega arith;
+          })

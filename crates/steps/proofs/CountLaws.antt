@@ -11,8 +11,8 @@ use Rattle.rules.specs.Limits.{noteSize}
 use Rattle.rules.specs.Records.{Note, Bar, isEmpty, notesOf}
 use Rattle.rules.specs.Rules.{State, endsInNote, joins, repeatedBar}
 use Rattle.rules.specs.Words.{zeros, noteWords}
-use Rattle.values.specs.declared.pae.Voice.{Voice}
-use Rattle.values.specs.declared.pae.Counts.{Counts}
+use Rattle.limits.specs.declared.Voice.{Voice}
+use Rattle.limits.specs.declared.Counts.{Counts}
 use Rattle.records.specs.Cells.{recordAt}
 use Rattle.records.specs.Notes.{kindAt, pitchCountAt, numberAt}
 use Rattle.records.proofs.CellLaws.{length-cells, padded-blank}

@@ -14,8 +14,8 @@ use borrow.Author.Tests.{eq-eqb, ne-eqb}
 use Rattle.rules.specs.Tokens.{letter}
 use Rattle.rules.specs.Records.{_or_, given}
 use Rattle.rules.specs.Rules as rules
-use Rattle.values.specs.declared.pae.Attributes.{Attributes}
-use Rattle.values.specs.declared.pae.Voice.{Voice}
+use Rattle.limits.specs.declared.Attributes.{Attributes}
+use Rattle.limits.specs.declared.Voice.{Voice}
 use Rattle.steps.specs.Accidentals.{Table, isNone, alterIn, cleared, entry, entered, lettered, alterOf}
 use Rattle.steps.specs.Relation.{Voiced, Attributed, Tabled}
 

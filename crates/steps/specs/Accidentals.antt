@@ -6,7 +6,7 @@ use mathlib.Core.List.{List, []}
 use lib.IntN.{ℤ, pos, negsuc}
 use lib.ListN.{getD, set, replicate}
 use lib.Dec.{eqb}
-use Rattle.values.specs.declared.pae.Voice.{Voice}
+use Rattle.limits.specs.declared.Voice.{Voice}
 
 -- 3 means none
 abbrev pub isNone : ℤ → Bool

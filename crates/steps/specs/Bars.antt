@@ -9,8 +9,8 @@ use Rattle.rules.specs.Values.{treble}
 use Rattle.records.specs.Cells.{withRecord}
 use Rattle.records.specs.Bars.{barNumbers}
 use Rattle.records.specs.declared.bar.Bar.{Bar}
-use Rattle.values.specs.declared.pae.Attributes.{Attributes}
-use Rattle.values.specs.declared.pae.Counts.{Counts}
+use Rattle.limits.specs.declared.Attributes.{Attributes}
+use Rattle.limits.specs.declared.Counts.{Counts}
 use Rattle.steps.specs.State.{hasContent, openLength}
 
 -- the first stored bar, if it has no clef, gets treble

@@ -11,12 +11,13 @@ use Rattle.rules.specs.Values.{Length, normalOf}
 use Rattle.rules.specs.Records.{Pitch, Heading}
 use Rattle.rules.specs.Rules.{kindOf, lengthOf, heading, Closing, nothing, fermata, tuplet, tooFew}
 use Rattle.rules.specs.Words.{noteWords}
-use Rattle.records.specs.Cells.{natural, withRecord, changed}
+use Rattle.rules.specs.Stored.{natural}
+use Rattle.records.specs.Cells.{withRecord, changed}
 use Rattle.records.specs.Notes.{opened, kindAt, pitched, tieStarted, marked}
 use Rattle.records.specs.Groups.{notatedWords, walked, fermataIn, onPart}
 use Rattle.records.specs.declared.group.Notation.the-variants.{Tuplet}
-use Rattle.values.specs.declared.pae.Voice.{Voice}
-use Rattle.values.specs.declared.pae.Counts.{Counts}
+use Rattle.limits.specs.declared.Voice.{Voice}
+use Rattle.limits.specs.declared.Counts.{Counts}
 use Rattle.steps.specs.State.{hasContent}
 
 -- the number in word `at` of the last record

@@ -11,13 +11,13 @@ use Rattle.rules.specs.Limits.{noteLimit, noteSize, barSize}
 use Rattle.rules.specs.Values.{Meter}
 use Rattle.rules.specs.Records.{Note, Bar, notesOf, Diagnostic}
 use Rattle.rules.specs.Rules as rules
-use Rattle.rules.specs.Words.{Numbered, inBar, numbered, cells, padded, noteWords, barCells, firstOnes}
+use Rattle.rules.specs.Words.{Numbered, inBar, numbered, cells, padded, noteWords, barCells, storedDiagnostics}
 use Rattle.records.specs.Diagnostics.{heldCells}
-use Rattle.values.specs.declared.pae.Attributes.{Attributes}
-use Rattle.values.specs.declared.pae.Voice.{Voice}
-use Rattle.values.specs.declared.pae.Counts.{Counts}
-use Rattle.values.specs.declared.pae.Start.{Start}
-use Rattle.values.specs.declared.pae.Groups.{Groups}
+use Rattle.limits.specs.declared.Attributes.{Attributes}
+use Rattle.limits.specs.declared.Voice.{Voice}
+use Rattle.limits.specs.declared.Counts.{Counts}
+use Rattle.limits.specs.declared.Start.{Start}
+use Rattle.limits.specs.declared.Groups.{Groups}
 use Rattle.steps.specs.Accidentals.{Table, alterIn, entry}
 use Rattle.steps.specs.Notes.{graceIn}
 
@@ -119,5 +119,5 @@ pub record Figured (figure : List Note) (count : ℕ) (held : List ℤ) : Type 0
 
 -- diagnostics in so many scratch cells, six words each: those that find room stand in them, all count
 pub record Diagnosed (size : ℕ) (ds : List Diagnostic) (count : ℕ) (scratch : List ℤ) : Type 0 where
-  pub counted : count ≡ length (firstOnes ds)
+  pub counted : count ≡ length (storedDiagnostics ds)
   pub written : scratch ≡ heldCells size ds

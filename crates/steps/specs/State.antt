@@ -6,12 +6,12 @@ use lib.Dec.{eqb, leb, ltb}
 use mathlib.Core.Option.{Option}
 use Rattle.rules.specs.Values.{Clef, Key, Meter}
 use Rattle.rules.specs.Records.{given}
-use Rattle.values.specs.declared.pae.Attributes.{Attributes}
-use Rattle.values.specs.declared.pae.Voice.{Voice}
-use Rattle.values.specs.declared.pae.Counts.{Counts}
-use Rattle.values.specs.declared.pae.Start.{Start}
-use Rattle.values.specs.declared.pae.Groups.{Groups}
-use Rattle.values.specs.declared.pae.Pae.{Pae}
+use Rattle.limits.specs.declared.Attributes.{Attributes}
+use Rattle.limits.specs.declared.Voice.{Voice}
+use Rattle.limits.specs.declared.Counts.{Counts}
+use Rattle.limits.specs.declared.Start.{Start}
+use Rattle.limits.specs.declared.Groups.{Groups}
+use Rattle.limits.specs.declared.Pae.{Pae}
 use Rattle.values.specs.declared.rhythm.Octave.{Octave}
 use Rattle.values.specs.declared.rhythm.Octave.the-variants as o
 

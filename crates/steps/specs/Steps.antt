@@ -3,11 +3,11 @@ use Prim.Native.Nat.{ℕ}
 use mathlib.Core.Bool.{Bool, false, cond, _||_}
 use mathlib.Core.List.{List}
 use Rattle.rules.specs.Values.{clefOf, keyOf, meterOf, countOf}
-use Rattle.values.specs.declared.pae.Attributes.{Attributes}
-use Rattle.values.specs.declared.pae.Voice.{Voice}
-use Rattle.values.specs.declared.pae.Counts.{Counts}
-use Rattle.values.specs.declared.pae.Groups.{Groups}
-use Rattle.values.specs.declared.pae.Pae.{Pae}
+use Rattle.limits.specs.declared.Attributes.{Attributes}
+use Rattle.limits.specs.declared.Voice.{Voice}
+use Rattle.limits.specs.declared.Counts.{Counts}
+use Rattle.limits.specs.declared.Groups.{Groups}
+use Rattle.limits.specs.declared.Pae.{Pae}
 use Rattle.decode.specs.declared.Figure.{Figure}
 use Rattle.decode.specs.declared.Figure.the-variants as f
 use Rattle.decode.specs.declared.Marking.{Marking}

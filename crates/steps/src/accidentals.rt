@@ -5,9 +5,9 @@ ghost use lib.ListN.{getD};
 ghost use lib.IntN.{pos};
 ghost use mathlib.Core.Bool.{cond};
 ghost use Rattle.steps.specs.Accidentals.{isNone, cleared, alterOf};
-use values::pae::Attributes;
-use values::pae::Pae;
-use values::pae::Voice;
+use limits::Attributes;
+use limits::Pae;
+use limits::Voice;
 
 // Barlines clear them.
 pub fn cleared() -> [[i8; 10]; 7]

@@ -8,11 +8,11 @@ ghost use Rattle.records.specs.Cells.{wordLimit};
 ghost use Rattle.steps.specs.State.{hasContent};
 ghost use Rattle.steps.specs.Bars.{clefStored, keyStored, barOf, storedBars};
 use super::state::has_content;
+use limits::Attributes;
+use limits::Counts;
 use records::bar::Bar;
 use values::attributes::Clef;
 use values::attributes::clef_number;
-use values::pae::Attributes;
-use values::pae::Counts;
 
 // The first stored bar, if it has no clef, gets treble.
 fn clef_stored(counts: Counts, attributes: Attributes) -> u8

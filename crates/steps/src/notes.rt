@@ -9,6 +9,8 @@ ghost use Rattle.records.specs.Cells.{wordLimit, recordAt};
 ghost use Rattle.records.specs.Notes.{headingOf, pitchOf, pitchCountAt, markCountAt, marksAt, markLimit};
 ghost use Rattle.rules.specs.Rules.{kindOf, lengthOf, heading};
 ghost use Rattle.steps.specs.Notes.{lastField, endsOf, joinsOf, graceIn, isGraceIn, headingIn, pitchIn, joinedCells, openedCells, restCells, tiedCells, trilledCells};
+use limits::Counts;
+use limits::Voice;
 use records::Place;
 use records::note::Heading;
 use records::note::KIND;
@@ -19,8 +21,6 @@ use records::note::field;
 use records::note::start_tie;
 use records::note::store_note;
 use records::note::store_rest;
-use values::pae::Counts;
-use values::pae::Voice;
 
 // There is a last record in the open bar, and it is no rest.
 pub fn ends_in_note(counts: Counts, notes: &[i32]) -> bool

@@ -5,18 +5,18 @@ ghost use Prim.Native.Nat.{_≤_, _<_};
 ghost use Rattle.text.specs.Counts.{numberIn};
 ghost use Rattle.values.specs.Attributes.{clefValue, keyValue, meterOption};
 ghost use Rattle.steps.specs.State.{hasContent, openLength, clefSet, keySet, meterSet, newBar, barAttributes, accidentalSet, graceSet, letterJoined, letterOpened, counted, barCounted, repeatedCount, noStart, startAt, figureMarked, beamSet, parenSet, countSet, figureClosed};
+use limits::Attributes;
+use limits::Counts;
+use limits::Groups;
+use limits::Pae;
+use limits::Start;
+use limits::Voice;
 use text::Count;
 use values::attributes::ClefValue;
 use values::attributes::Key;
 use values::attributes::Meter;
 use values::attributes::NamedClef;
 use values::attributes::clef_number;
-use values::pae::Attributes;
-use values::pae::Counts;
-use values::pae::Groups;
-use values::pae::Pae;
-use values::pae::Start;
-use values::pae::Voice;
 
 // The open bar has a record.
 pub fn has_content(counts: Counts) -> bool

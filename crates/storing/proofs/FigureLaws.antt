@@ -10,7 +10,7 @@ use Rattle.rules.specs.Limits.{noteSize, noteLimit}
 use Rattle.rules.specs.Records.{Note, Bar}
 use Rattle.rules.specs.Rules.{copied, repeatedBar, notesFrom}
 use Rattle.rules.specs.Words.{cells, padded, noteWords, inBar}
-use Rattle.values.specs.declared.pae.Counts.{Counts}
+use Rattle.limits.specs.declared.Counts.{Counts}
 use Rattle.records.specs.Cells.{written}
 use Rattle.records.specs.Copies.{copies}
 use Rattle.records.proofs.CellLaws.{length-cells, padded-extended}

@@ -11,21 +11,21 @@ use borrow.Author.Tests.{leb-true, leb-false}
 use Rattle.rules.specs.Limits.{noteSize, markCapacity}
 use Rattle.rules.specs.Values.{normalOf}
 use Rattle.rules.specs.Records.{Notations, Note}
-use Rattle.rules.specs.Rules.{State, Group, timedIn, notesFrom, Closing, nothing, fermata, tuplet, tooFew, closing, closed, closingOf, groupClosed, beamClosed, renotated}
+use Rattle.rules.specs.Rules.{State, Group, nonGraceIn, notesFrom, Closing, nothing, fermata, tuplet, tooFew, closing, closed, closingOf, groupClosed, beamClosed, withNotations}
 use Rattle.rules.specs.Refusals as refusals
-use Rattle.values.specs.declared.pae.Counts.{Counts}
+use Rattle.limits.specs.declared.Counts.{Counts}
 use Rattle.records.specs.Cells.{recordAt}
 use Rattle.records.specs.Notes.{numberAt, markCountAt, HasRoom}
-use Rattle.records.specs.Groups.{timedCount, lastTimed, notatedWords, walked, beamed, fermataIn, onPart}
+use Rattle.records.specs.Groups.{timedCount, lastNonGrace, notatedWords, walked, beamed, fermataIn, onPart}
 use Rattle.records.specs.declared.group.Notation.the-variants.{Tuplet}
 use Rattle.records.proofs.GroupLaws.{timed-below, timed-none}
-use Rattle.records.proofs.RenotedLaws.{renotated-few, fermata-one}
+use Rattle.records.proofs.RenotedLaws.{withNotations-few, fermata-one}
 use Rattle.records.proofs.StoredLaws.{part-timed}
 use Rattle.records.proofs.MarkingLaws as records
 use Rattle.steps.specs.State.{openLength}
 use Rattle.steps.specs.Relation.{Stored}
 use Rattle.steps.proofs.CountLaws.{length-open}
-use Rattle.storing.proofs.NotesLaws.{renotated-stored}
+use Rattle.storing.proofs.NotesLaws.{withNotations-stored}
 
 -- a start beyond the bar's length
 none-from : (start : ℕ) (o : List Note) → length o < start → notesFrom start o ≡ []
@@ -41,12 +41,12 @@ module _ {size : ℕ} {c : Counts} {notes : List ℤ} (s : State) (r : Stored si
   -- ---- `}`
 
   -- '`}` beams the open bar's non-grace records from that length on, rests too, if two or more'
-  pub beam-closed : (start : ℕ) → start ≤ length (s .openBar) → Stored size (renotated (beamClosed start s) 0 (s .openBar)) (s .bars) c (onPart (c .first + start) (λ part. beamed part (openLength c - start)) notes)
+  pub beam-closed : (start : ℕ) → start ≤ length (s .openBar) → Stored size (withNotations (beamClosed start s) 0 (s .openBar)) (s .bars) c (onPart (c .first + start) (λ part. beamed part (openLength c - start)) notes)
   beam-closed start h =
-      renotated-stored r (beamClosed start s) (onPart (c .first + start) (λ part. beamed part (openLength c - start)) notes) (rw (length-open r, r .first, r .written) (records.beam-stored size s start h))
+      withNotations-stored r (beamClosed start s) (onPart (c .first + start) (λ part. beamed part (openLength c - start)) notes) (rw (length-open r, r .first, r .written) (records.beam-stored size s start h))
 
-  pub beam-beyond : (start : ℕ) → length (s .openBar) < start → Stored size (renotated (beamClosed start s) 0 (s .openBar)) (s .bars) c notes
-  beam-beyond start h = subst (λ (l : List Note). Stored size l (s .bars) c notes) (sym (renotated-few start s (rw (none-from start (s .openBar) h) (omega arith)))) r
+  pub beam-beyond : (start : ℕ) → length (s .openBar) < start → Stored size (withNotations (beamClosed start s) 0 (s .openBar)) (s .bars) c notes
+  beam-beyond start h = subst (λ (l : List Note). Stored size l (s .bars) c notes) (sym (withNotations-few start s (rw (none-from start (s .openBar) h) (omega arith)))) r
 
   -- ---- what `)` makes of its group
 
@@ -56,7 +56,7 @@ module _ {size : ℕ} {c : Counts} {notes : List ℤ} (s : State) (r : Stored si
     closing-beyond h = rw (none-from (g .start) (s .openBar) h)
 
     -- its non-grace records
-    pub timed-from : g .start ≤ length (s .openBar) → timedCount (partFrom (g .start)) (openLength c - g .start) ≡ timedIn (notesFrom (g .start) (s .openBar))
+    pub timed-from : g .start ≤ length (s .openBar) → timedCount (partFrom (g .start)) (openLength c - g .start) ≡ nonGraceIn (notesFrom (g .start) (s .openBar))
     timed-from h = rw (length-open r, r .first, r .written) (part-timed size (s .openBar) (s .bars) (g .start) h)
 
     -- what the program finds
@@ -84,7 +84,7 @@ module _ {size : ℕ} {c : Counts} {notes : List ℤ} (s : State) (r : Stored si
     -- ---- `)`
 
     abbrev pub After : List ℤ → Type 0
-    After cells = Stored size (renotated (groupClosed g s) 0 (s .openBar)) (s .bars) c cells
+    After cells = Stored size (withNotations (groupClosed g s) 0 (s .openBar)) (s .bars) c cells
 
     unchanged : (what : Closing) → closingOf g s ≡ what → ((d : Notations) → closed what d ≡ d) → After notes
     unchanged what e h = subst (λ (l : List Note). Stored size l (s .bars) c notes) (sym (records.unclosed g s (λ d. ap (λ (x : Closing). closed x d) e ∙ h d))) r
@@ -100,24 +100,24 @@ module _ {size : ℕ} {c : Counts} {notes : List ℤ} (s : State) (r : Stored si
     -- 'One and no count: fermata'
     pub fermata-closed : closingOf g s ≡ fermata → After (onPart (c .first + g .start) (λ part. fermataIn part (openLength c - g .start)) notes)
     fermata-closed e =
-        renotated-stored r (groupClosed g s) (onPart (c .first + g .start) (λ part. fermataIn part (openLength c - g .start)) notes) (rw (length-open r, r .first, r .written) (records.fermata-stored size s g (fermata-within e) e))
+        withNotations-stored r (groupClosed g s) (onPart (c .first + g .start) (λ part. fermataIn part (openLength c - g .start)) notes) (rw (length-open r, r .first, r .written) (records.fermata-stored size s g (fermata-within e) e))
 
     -- 'Else actual is the count or 3'
     pub tuplet-closed : (actual : ℕ) → closingOf g s ≡ tuplet actual → After (onPart (c .first + g .start) (λ part. walked (notatedWords (Tuplet actual (normalOf actual))) part (openLength c - g .start) .0) notes)
     tuplet-closed actual e =
-        renotated-stored r (groupClosed g s) (onPart (c .first + g .start) (λ part. walked (notatedWords (Tuplet actual (normalOf actual))) part (openLength c - g .start) .0) notes)
+        withNotations-stored r (groupClosed g s) (onPart (c .first + g .start) (λ part. walked (notatedWords (Tuplet actual (normalOf actual))) part (openLength c - g .start) .0) notes)
         (rw (length-open r, r .first, r .written) (records.tuplet-stored size s g (tuplet-within actual e) actual e))
 
     -- ---- refusal 10 at a fermata: 'the note has 8 marks', and room where it has not
 
     pub fermata-some : closingOf g s ≡ fermata → 0 < openLength c - g .start
-    fermata-some e = omega (arith, timed-from (fermata-within e), fermata-one (timedIn (notesFrom (g .start) (s .openBar))) (g .count) e, timed-below (partFrom (g .start)) (openLength c - g .start))
+    fermata-some e = omega (arith, timed-from (fermata-within e), fermata-one (nonGraceIn (notesFrom (g .start) (s .openBar))) (g .count) e, timed-below (partFrom (g .start)) (openLength c - g .start))
 
     abbrev pub fermataWords : List ℤ
-    fermataWords = recordAt noteSize (partFrom (g .start)) (lastTimed (partFrom (g .start)) (openLength c - g .start))
+    fermataWords = recordAt noteSize (partFrom (g .start)) (lastNonGrace (partFrom (g .start)) (openLength c - g .start))
 
-    pub fermata-full : closingOf g s ≡ fermata → refusals.isMarkedFull (refusals.lastTimed (s .openBar)) ≡ leb markCapacity (numberAt markCountAt fermataWords)
+    pub fermata-full : closingOf g s ≡ fermata → refusals.isMarkedFull (refusals.lastNonGrace (s .openBar)) ≡ leb markCapacity (numberAt markCountAt fermataWords)
     fermata-full e = rw (length-open r, r .first, r .written) (records.fermata-full size s g (fermata-within e) e)
 
-    pub fermata-room : closingOf g s ≡ fermata → refusals.isMarkedFull (refusals.lastTimed (s .openBar)) ≡ false → HasRoom fermataWords
+    pub fermata-room : closingOf g s ≡ fermata → refusals.isMarkedFull (refusals.lastNonGrace (s .openBar)) ≡ false → HasRoom fermataWords
     fermata-room e h = rw (length-open r, r .first, r .written) (records.fermata-room size s g (fermata-within e) e h)

@@ -12,10 +12,10 @@ use Rattle.rules.specs.Limits.{noteSize, noteLimit, pitchCapacity}
 use Rattle.rules.specs.Values.{Length}
 use Rattle.rules.specs.Tokens.{tie, trill}
 use Rattle.rules.specs.Records.{Pitch, Notations, Note, Bar}
-use Rattle.rules.specs.Rules.{State, heading, plain, endsInNote, addPitch, withTieStart, withMark, marked, renotated}
+use Rattle.rules.specs.Rules.{State, heading, plain, endsInNote, addPitch, withTieStart, withMark, marked, withNotations}
 use Rattle.rules.specs.Words.{cells, padded, noteWords}
-use Rattle.values.specs.declared.pae.Voice.{Voice}
-use Rattle.values.specs.declared.pae.Counts.{Counts}
+use Rattle.limits.specs.declared.Voice.{Voice}
+use Rattle.limits.specs.declared.Counts.{Counts}
 use Rattle.records.specs.Cells.{withRecord, changed}
 use Rattle.records.specs.Notes as words
 use Rattle.records.proofs.NoteLaws.{pitched-note, tie-started-note, marked-note}
@@ -29,27 +29,27 @@ use Rattle.steps.proofs.CountLaws.{content, last-number, last-pitches, ends-agr
 
 -- ---- records that change and are counted the same
 
-length-renotated : (f : ℕ → Note → Notations) (i : ℕ) (l : List Note) → length (renotated f i l) ≡ length l
-length-renotated f i [] = refl
-length-renotated f i (x ∷ l) = ap suc (length-renotated f (suc i) l)
+length-withNotations : (f : ℕ → Note → Notations) (i : ℕ) (l : List Note) → length (withNotations f i l) ≡ length l
+length-withNotations f i [] = refl
+length-withNotations f i (x ∷ l) = ap suc (length-withNotations f (suc i) l)
 
-pub renotated-same : (f : ℕ → Note → Notations) → ((i : ℕ) (n : Note) → f i n ≡ n .notations) → (i : ℕ) (l : List Note) → renotated f i l ≡ l
-renotated-same f h i [] = refl
-renotated-same f h i (x ∷ l) = λ k. renoted (h i x k) x ∷ renotated-same f h (suc i) l k
+pub withNotations-same : (f : ℕ → Note → Notations) → ((i : ℕ) (n : Note) → f i n ≡ n .notations) → (i : ℕ) (l : List Note) → withNotations f i l ≡ l
+withNotations-same f h i [] = refl
+withNotations-same f h i (x ∷ l) = λ k. renoted (h i x k) x ∷ withNotations-same f h (suc i) l k
 
 module _ {size : ℕ} {bs : List Bar} {c : Counts} {notes : List ℤ} where
   changed-stored : {o : List Note} → Stored size o bs c notes → (o′ : List Note) (after : List ℤ) → length o′ ≡ length o → after ≡ padded size (cells noteWords (recordsIn o′ bs)) → Stored size o′ bs c after
   changed-stored r o′ after e w = record { count = rw e (r .count); first = r .first; last = r .last; bars = r .bars; written = w; fits = r .fits; capped = r .capped }
 
   -- new notations
-  pub renotated-stored : {o : List Note} → Stored size o bs c notes → (f : ℕ → Note → Notations) (after : List ℤ) → after ≡ padded size (cells noteWords (recordsIn (renotated f 0 o) bs)) → Stored size (renotated f 0 o) bs c after
-  renotated-stored {o} r f after w = changed-stored r (renotated f 0 o) after (length-renotated f 0 o) w
+  pub withNotations-stored : {o : List Note} → Stored size o bs c notes → (f : ℕ → Note → Notations) (after : List ℤ) → after ≡ padded size (cells noteWords (recordsIn (withNotations f 0 o) bs)) → Stored size (withNotations f 0 o) bs c after
+  withNotations-stored {o} r f after w = changed-stored r (withNotations f 0 o) after (length-withNotations f 0 o) w
 
-  pub kept : {o : List Note} → Stored size o bs c notes → (f : ℕ → Note → Notations) → ((i : ℕ) (n : Note) → f i n ≡ n .notations) → Stored size (renotated f 0 o) bs c notes
-  kept {o} r f h = subst (λ (l : List Note). Stored size l bs c notes) (sym (renotated-same f h 0 o)) r
+  pub kept : {o : List Note} → Stored size o bs c notes → (f : ℕ → Note → Notations) → ((i : ℕ) (n : Note) → f i n ≡ n .notations) → Stored size (withNotations f 0 o) bs c notes
+  kept {o} r f h = subst (λ (l : List Note). Stored size l bs c notes) (sym (withNotations-same f h 0 o)) r
 
   -- a token that changes no record
-  pub untouched : {o : List Note} → Stored size o bs c notes → Stored size (renotated (λ later n. n .notations) 0 o) bs c notes
+  pub untouched : {o : List Note} → Stored size o bs c notes → Stored size (withNotations (λ later n. n .notations) 0 o) bs c notes
   untouched r = kept r (λ later n. n .notations) (λ i n. refl)
 
   -- the last record replaced
@@ -96,23 +96,23 @@ module _ {size : ℕ} {bs : List Bar} {c : Counts} {notes : List ℤ} where
 
   module _ (s : State) (r : Stored size (s .openBar) bs c notes) where
     -- '`+`, if the open bar's last record is a note or grace, starts its tie'
-    pub tied : Stored size (renotated (marked tie s) 0 (s .openBar)) bs c (cond (endsOf c notes) (tiedCells c notes) notes)
+    pub tied : Stored size (withNotations (marked tie s) 0 (s .openBar)) bs c (cond (endsOf c notes) (tiedCells c notes) notes)
     tied = go (endsInNote (s .openBar)) refl
       where
-        last : (o : List Note) → s .openBar ≡ o → endsInNote o ≡ true → Stored size o bs c notes → Stored size (renotated (marked tie s) 0 (s .openBar)) bs c (tiedCells c notes)
+        last : (o : List Note) → s .openBar ≡ o → endsInNote o ≡ true → Stored size o bs c notes → Stored size (withNotations (marked tie s) 0 (s .openBar)) bs c (tiedCells c notes)
         last [] e h r = absurd (false≢true h)
         last (x ∷ o) e h r =
             subst (λ (l : List Note). Stored size l bs c (tiedCells c notes)) (sym (tie-open s x o e h)) (last-replaced r words.tieStarted (renoted (withTieStart (x .notations)) x) (tie-started-note (record { bar = suc (length bs); note = x })))
 
-        go : (b : Bool) → endsInNote (s .openBar) ≡ b → Stored size (renotated (marked tie s) 0 (s .openBar)) bs c (cond (endsOf c notes) (tiedCells c notes) notes)
+        go : (b : Bool) → endsInNote (s .openBar) ≡ b → Stored size (withNotations (marked tie s) 0 (s .openBar)) bs c (cond (endsOf c notes) (tiedCells c notes) notes)
         go true e = rw (ends-agree (s .openBar) r ∙ e) (last (s .openBar) refl e r)
         go false e = rw (ends-agree (s .openBar) r ∙ e) (kept r (marked tie s) (λ i n. rw (e, and-false (eqb i 0))))
 
     -- '`t` marks the bar's last record, rests too'
-    pub trilled : Stored size (renotated (marked trill s) 0 (s .openBar)) bs c (cond (hasContent c) (trilledCells c notes) notes)
+    pub trilled : Stored size (withNotations (marked trill s) 0 (s .openBar)) bs c (cond (hasContent c) (trilledCells c notes) notes)
     trilled = go (s .openBar) refl r
       where
-        go : (o : List Note) → s .openBar ≡ o → Stored size o bs c notes → Stored size (renotated (marked trill s) 0 (s .openBar)) bs c (cond (hasContent c) (trilledCells c notes) notes)
-        go [] e r = rw (content [] r) (subst (λ (l : List Note). Stored size (renotated (marked trill s) 0 l) bs c notes) (sym e) r)
+        go : (o : List Note) → s .openBar ≡ o → Stored size o bs c notes → Stored size (withNotations (marked trill s) 0 (s .openBar)) bs c (cond (hasContent c) (trilledCells c notes) notes)
+        go [] e r = rw (content [] r) (subst (λ (l : List Note). Stored size (withNotations (marked trill s) 0 l) bs c notes) (sym e) r)
         go (x ∷ o) e r =
             rw (content (x ∷ o) r) (subst (λ (l : List Note). Stored size l bs c (trilledCells c notes)) (sym (trill-open s x o e)) (last-replaced r (words.marked true) (renoted (withMark true (x .notations)) x) (marked-note true (record { bar = suc (length bs); note = x }))))

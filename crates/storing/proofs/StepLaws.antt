@@ -6,19 +6,19 @@ use mathlib.Core.Bool.{Bool, true, false, cond, _&&_}
 use mathlib.Core.Option.{Option, none, some}
 use mathlib.Core.List.{List, [], _∷_, _++_, map}
 use lib.IntN.{ℤ}
-use lib.ListN.{length, take, drop, length-append}
+use lib.ListN.{length, take, drop}
 use lib.Dec.{leb}
 use borrow.Author.Tests.{leb-true, leb-false}
 use Rattle.text.proofs.BoolLaws.{both}
 use Rattle.rules.specs.Limits.{noteSize, noteLimit, pitchCapacity}
 use Rattle.rules.specs.Values.{Length}
 use Rattle.rules.specs.Tokens.{Token, Item, letter, rest, barline, figure, figureMark, figureRepeat, barRepeat, marking, beamOpen, beamClose, groupOpen, groupClose, groupCount, tie, trill, letterIn, isRest, isBarline, figureIn, markingIn}
-use Rattle.rules.specs.Records.{Note, given, notesOf}
-use Rattle.rules.specs.Rules.{State, Group, Closing, nothing, fermata, tuplet, tooFew, closing, closingOf, close, pitchOf, kindOf, lengthOf, heading, plain, openedNote, restNote, nextValue, alterOf, endsInNote, joins, copied, repeatedBar, notesFrom, groupClosed, beamClosed, notationsNext, renotated, step}
+use Rattle.rules.specs.Records.{Note, given}
+use Rattle.rules.specs.Rules.{State, Group, Closing, nothing, fermata, tuplet, tooFew, closing, closingOf, pitchOf, kindOf, lengthOf, heading, plain, openedNote, restNote, nextValue, alterOf, endsInNote, joins, copied, repeatedBar, notesFrom, groupClosed, beamClosed, notationsNext, withNotations, step}
 use Rattle.rules.specs.Words.{zeros}
-use Rattle.values.specs.declared.pae.Voice.{Voice}
-use Rattle.values.specs.declared.pae.Counts.{Counts}
-use Rattle.values.specs.declared.pae.Groups.{Groups}
+use Rattle.limits.specs.declared.Voice.{Voice}
+use Rattle.limits.specs.declared.Counts.{Counts}
+use Rattle.limits.specs.declared.Groups.{Groups}
 use Rattle.records.specs.Cells.{written}
 use Rattle.records.specs.Copies.{copies}
 use Rattle.records.specs.Notes.{pitchCountAt}
@@ -27,12 +27,13 @@ use Rattle.records.proofs.CellLaws.{padded-none}
 use Rattle.steps.specs.State.{hasContent, openLength, counted, barCounted, repeatedCount, figureClosed}
 use Rattle.steps.specs.Notes.{lastField, endsOf, joinsOf, pitchIn, joinedCells, openedCells, restCells, tiedCells, trilledCells, closedCells}
 use Rattle.steps.specs.Relation.{countIn, Voiced, Grouped, Stored, Figured}
-use Rattle.steps.proofs.CountLaws.{length-open, content, ends-agree}
-use Rattle.storing.proofs.NotesLaws.{opened, rested, joined, renotated-same, kept, untouched, tied, trilled}
+use Rattle.steps.proofs.CountLaws.{length-open, ends-agree}
+use Rattle.steps.proofs.StoredBar.{bar-stored}
+use Rattle.storing.proofs.NotesLaws.{opened, rested, joined, withNotations-same, kept, untouched, tied, trilled}
 use Rattle.storing.proofs.FigureLaws.{figure-closed, figure-repeated, bar-repeated}
 use Rattle.storing.proofs.GroupsOpenLaws.{beam-closed, beam-beyond, closing-read, nothing-closed, few-closed, fermata-closed, tuplet-closed}
 
--- ---- the start and the end of a reading
+-- ---- the start of a reading
 
 -- cleared cells hold a fresh reading
 pub fresh-stored : (size : ℕ) → Stored size [] [] (record { notes = 0; first = 0; last = 0; bars = 0 }) (zeros size)
@@ -40,19 +41,6 @@ fresh-stored size = record { count = refl; first = refl; last = refl; bars = ref
 
 pub fresh-figured : (held : List ℤ) → Figured [] 0 held
 fresh-figured held = record { records = []; rest = held; notes = refl; counted = refl; written = refl }
-
--- 'An empty bar isn't stored .. The end closes a non-empty bar'
-pub bar-closed : {size : ℕ} {c : Counts} {notes : List ℤ} (right : ℕ) (s : State) (o : List Note) → Stored size o (s .bars) c notes → Stored size [] (close right s o) (barCounted c) notes
-bar-closed right s [] r = rw (content [] r) r
-bar-closed right s (x ∷ o) r = rw (content (x ∷ o) r) (record {
-  count = omega (arith, r .count, length-append (x ∷ o) (notesOf (s .bars)));
-  first = omega (arith, r .count, length-append (x ∷ o) (notesOf (s .bars)));
-  last = r .first;
-  bars = omega (arith, r .bars);
-  written = r .written;
-  fits = r .fits;
-  capped = r .capped;
-})
 
 module _ {size : ℕ} {c : Counts} {notes : List ℤ} (place offset width : ℕ) (s : State) (r : Stored size (s .openBar) (s .bars) c notes) where
   abbrev pub item : Token → Item
@@ -88,7 +76,7 @@ module _ {size : ℕ} {c : Counts} {notes : List ℤ} (place offset width : ℕ)
 
   pub barline-stored : (right left : ℕ) → After (barline right left) (barCounted c) notes
   unfolding step
-  barline-stored right left = bar-closed right s (s .openBar) r
+  barline-stored right left = bar-stored s right r
 
   pub tie-stored : After (marking tie) c (cond (endsOf c notes) (tiedCells c notes) notes)
   unfolding step
@@ -134,11 +122,11 @@ module _ {size : ℕ} {c : Counts} {notes : List ℤ} (place offset width : ℕ)
   unfolding step
   bar-repeat-stored fit cap =
       subst (λ (l : List Note). Stored size (map (copied place) (repeatedBar (s .openBar) (s .bars)) ++ l) (s .bars) (counted (repeatedCount c) c) (written notes (c .notes * noteSize) (copies place (c .bars + 1) (drop (c .last * noteSize) notes) (repeatedCount c))))
-      (sym (renotated-same (λ later n. n .notations) (λ i n. refl) 0 (s .openBar))) (bar-repeated place (s .openBar) (s .bars) r fit cap)
+      (sym (withNotations-same (λ later n. n .notations) (λ i n. refl) 0 (s .openBar))) (bar-repeated place (s .openBar) (s .bars) r fit cap)
 
   -- ---- groups
 
-  group-closed : (x : Group) (what : Closing) → closingOf x s ≡ what → Stored size (renotated (groupClosed x s) 0 (s .openBar)) (s .bars) c (closedCells what (c .first + x .start) (openLength c - x .start) notes)
+  group-closed : (x : Group) (what : Closing) → closingOf x s ≡ what → Stored size (withNotations (groupClosed x s) 0 (s .openBar)) (s .bars) c (closedCells what (c .first + x .start) (openLength c - x .start) notes)
   group-closed x nothing e = nothing-closed s r x e
   group-closed x fermata e = fermata-closed s r x e
   group-closed x (tuplet actual) e = tuplet-closed s r x actual e
@@ -164,7 +152,7 @@ module _ {size : ℕ} {c : Counts} {notes : List ℤ} (place offset width : ℕ)
     beam-close-stored = subst (λ (b : Option ℕ). Beamed b (g .beam .noted) (g .beam .length)) (sym (w .beam)) (go (g .beam .noted) (leb (g .beam .length) (openLength c)) (g .beam .length) refl)
       where
         Beamed : Option ℕ → Bool → ℕ → Type 0
-        Beamed b noted start = Stored size (renotated (λ later n. given b (n .notations) (λ k. beamClosed k s later n)) 0 (s .openBar)) (s .bars) c (cond (noted && leb start (openLength c)) (onPart (c .first + start) (λ part. beamed part (openLength c - start)) notes) notes)
+        Beamed b noted start = Stored size (withNotations (λ later n. given b (n .notations) (λ k. beamClosed k s later n)) 0 (s .openBar)) (s .bars) c (cond (noted && leb start (openLength c)) (onPart (c .first + start) (λ part. beamed part (openLength c - start)) notes) notes)
 
         go : (noted reaches : Bool) (start : ℕ) → leb start (openLength c) ≡ reaches → Beamed (cond noted (some start) none) noted start
         go false reaches start e = untouched r
@@ -181,7 +169,7 @@ module _ {size : ℕ} {c : Counts} {notes : List ℤ} (place offset width : ℕ)
         group = record { start = g .paren .length; count = countIn (g .count) }
 
         Closed : Option Group → Bool → Type 0
-        Closed x noted = Stored size (renotated (λ later n. given x (n .notations) (λ k. groupClosed k s later n)) 0 (s .openBar)) (s .bars) c
+        Closed x noted = Stored size (withNotations (λ later n. given x (n .notations) (λ k. groupClosed k s later n)) 0 (s .openBar)) (s .bars) c
             (cond noted (closedCells (closing (timedCount (drop ((c .first + group .start) * noteSize) notes) (openLength c - group .start)) (group .count)) (c .first + group .start) (openLength c - group .start) notes) notes)
 
         go : (noted : Bool) → Closed (cond noted (some group) none) noted

@@ -17,9 +17,7 @@ ghost use Rattle.text.specs.Counts.{numberIn};
 ghost use Rattle.text.specs.Runs.{SameEnd};
 ghost use Rattle.text.specs.Parts.{Trimmed};
 ghost use Rattle.text.specs.Keys.{fieldKeyOf};
-
-// The largest number that digits may make.
-const COUNT_LIMIT: u16 = 255;
+use limits::Pae;
 
 // How many bytes of a run are tested one by one before chunks are.
 const SINGLES: usize = 8;
@@ -116,7 +114,7 @@ pub fn run(rest: &[u8], class: Class) -> usize
 }
 
 // The end of the run of bytes of the class from `at` on.
-pub fn run_end(text: &[u8], at: usize, class: Class) -> usize
+fn run_end(text: &[u8], at: usize, class: Class) -> usize
     requires { ⌜ at ≤ length (now text) ⌝ }
     ensures { λ r. ⌜ r ≡ at + runLength (inClass class) (drop at (now (text .entry))) ⌝ }
 {
@@ -265,7 +263,7 @@ pub fn count(digits: &[u8]) -> Count
             return Count::Refused;
         }
         n = n * 10 + wide(b - b'0');
-        if COUNT_LIMIT < n {
+        if Pae::MAX_COUNT < n {
             return Count::Refused;
         }
         i += 1;

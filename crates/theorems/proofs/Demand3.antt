@@ -1,95 +1,76 @@
 -- Demand 3 and the note count over bytes: of every text, every lent size. Assumes nothing.
-use Prim.Native.Nat.{ℕ, zero, suc, _+_, _-_, _<_}
-use mathlib.Core.Path.{_≡_, refl, ap, _∙_}
-use mathlib.Core.Option.{Option, none, some}
-use mathlib.Core.List.{List, [], _∷_}
-use native.Mathlib.Omega.{arith}
-use lib.ListN.{length}
-use Rattle.rules.specs.Cut.{tokenSize}
-use Rattle.rules.specs.Tokens.{itemAt, itemsAfter, latestPlace, Ordered, Item}
-use Rattle.rules.specs.Records.{_or_, given, isEmpty}
-use Rattle.rules.specs.Rules.{stateAfter, stored, Attributes}
+use Prim.Native.Nat.{ℕ, _+_}
+use mathlib.Core.Path.{_≡_, refl, sym, ap, _∙_}
+use mathlib.Core.Bool.{Bool, true, false, cond}
+use mathlib.Core.List.{List, [], _∷_, map}
+use lib.IntN.{ℤ, pos}
+use lib.ListN.{length, length-map}
+use Rattle.rules.specs.Tokens.{Item}
+use Rattle.rules.specs.Records.{Heading, Note}
+use Rattle.rules.specs.Rules.{Attributes}
 use Rattle.rules.specs.Fields.{dataOf}
-use Rattle.rules.specs.Refusals.{refusal, Check, firstFailing, textChecks, textRefusal, overBars, tokenChecks, tokenRefusal, tokensRefusal, refusalOf, Limits, Refusal}
-use Rattle.rules.specs.Reading.{limits, attributesOf, tokensOf, recordsOf, accepted, refused, reading, Lent}
-use Rattle.rules.specs.Agreement.{All, openedLetters, restTokens, copies, LooksBack, Demand3}
-use Rattle.theorems.proofs.Lists.{cond-ind}
-use Rattle.theorems.proofs.Agreement.{agreement, at-end}
-use Rattle.theorems.proofs.Count.{count-is}
+use Rattle.rules.specs.Words.{padded, noteCells}
+use Rattle.rules.specs.Stored.{StoredNote, notesIn}
+use Rattle.rules.specs.Reading.{attributesOf, tokensOf, barsOf, recordsOf, reading, Lent}
+use Rattle.rules.specs.LookBack.{keep, backJoins}
+use Rattle.rules.specs.Agreement.{hasRepeat, openedLetters, restTokens, copiesIn, Agreement, Demand3}
+use Rattle.theorems.proofs.Lists.{all-imp, all-map, some-map, keep-map}
+use Rattle.theorems.proofs.Cutting.{tokens-cut}
+use Rattle.theorems.proofs.Agreement.{headings, Agreed, agreed, at-end}
+use Rattle.theorems.proofs.Count.{repeatsAmong, count-is}
+use Rattle.theorems.proofs.Cells.{pitchStored, headingStored, noteStored, cells-back}
+use Rattle.theorems.proofs.Accepted.{accepted-is}
+use Rattle.theorems.proofs.Capacity.{notes-fit}
 
--- the tokens cut from a text have rising places
-pub cut-ordered : (skip place offset : ℕ) (text : List ℕ) (before : List Item) → latestPlace before < place → Ordered before → Ordered (itemsAfter skip place offset text before)
-unfolding itemsAfter itemAt
-cut-ordered skip place offset [] before h o = o
-cut-ordered zero place offset (b ∷ bs) before h o = cut-ordered (tokenSize (b ∷ bs) - 1) (place + 1) (offset + 1) bs (itemAt place offset b bs ∷ before) (omega arith) (h, o)
-cut-ordered (suc skip) place offset (b ∷ bs) before h o = cut-ordered skip (place + 1) (offset + 1) bs before (omega (arith, h)) o
+-- ---- the whole
 
-pub tokens-ordered : (text : List ℕ) → Ordered (tokensOf text)
-tokens-ordered text = cut-ordered 0 1 (dataOf text .start) (dataOf text .bytes) [] (omega arith) tt
-
--- demand 3 of every text
-pub looks-back : (text : List ℕ) → LooksBack text
-looks-back text = agreement (attributesOf text) (tokensOf text) (tokens-ordered text)
-
--- the note count of every text
-pub note-count : (text : List ℕ) → length (recordsOf text) ≡ openedLetters (attributesOf text) (tokensOf text) + restTokens (tokensOf text) + copies (attributesOf text) (tokensOf text)
-note-count text = ap length (at-end (attributesOf text) (tokensOf text)) ∙ count-is (attributesOf text) (tokensOf text) (tokens-ordered text)
-
--- ---- of every accepted reading
-
--- a refusal's number is not 0
-abbrev Positive : Option ℕ → Type 0
-Positive none = Unit {0}
-Positive (some n) = 0 < n
-
-abbrev Refuses : Option Refusal → Type 0
-Refuses none = Unit {0}
-Refuses (some r) = 0 < r .number
-
-failing-positive : (cs : List Check) → All (λ c. 0 < c .0) cs → Positive (firstFailing cs)
-failing-positive [] h = tt
-failing-positive (c ∷ cs) h = cond-ind Positive (c .1) (h .0) (failing-positive cs (h .1))
-
-at-place : (n : Option ℕ) (place : ℕ) → Positive n → Refuses (given n none (λ m. some (refusal m place)))
-at-place none place h = tt
-at-place (some n) place h = h
-
-or-refuses : (a b : Option Refusal) → Refuses a → Refuses b → Refuses (a or b)
-or-refuses none b g h = h
-or-refuses (some r) b g h = g
-
-text-refuses : (text : List ℕ) (lent : Limits) → Refuses (textRefusal text lent)
-text-refuses text lent = at-place (firstFailing (textChecks text lent)) 0 (failing-positive (textChecks text lent) (omega arith, (omega arith, (omega arith, (omega arith, (omega arith, tt))))))
-
-tokens-refuse : (lent : Limits) (k : Attributes) (all : List Item) → Refuses (tokensRefusal lent k all)
-unfolding tokensRefusal
-tokens-refuse lent k [] = tt
-tokens-refuse lent k (x ∷ before) = or-refuses (tokensRefusal lent k before) _ (tokens-refuse lent k before)
-    (at-place (tokenRefusal lent (x .token) (stateAfter k before)) (x .place)
-    (failing-positive (tokenChecks lent (x .token) (stateAfter k before)) (omega arith, (omega arith, (omega arith, (omega arith, (omega arith, (omega arith, (omega arith, tt)))))))))
-
-refuses : (text : List ℕ) (lent : Limits) → Refuses (refusalOf text lent)
-unfolding refusalOf
-refuses text lent =
-    or-refuses (textRefusal text lent) _ (text-refuses text lent)
-    (or-refuses (tokensRefusal lent (attributesOf text) (tokensOf text)) _ (tokens-refuse lent (attributesOf text) (tokensOf text))
-    (cond-ind Refuses (overBars lent (stateAfter (attributesOf text) (tokensOf text))) (omega arith)
-    (cond-ind Refuses (isEmpty (stored (stateAfter (attributesOf text) (tokensOf text)))) (omega arith) tt)))
-
--- a reading with the number 0 is a finished one
-pub accepted-is : (text : List ℕ) (lent : Lent) → reading text lent .number ≡ 0 → reading text lent ≡ accepted text lent
-unfolding reading
-accepted-is text lent = go (refusalOf text (limits lent)) (refuses text (limits lent))
-  where
-    go : (r : Option Refusal) → Refuses r → given r (accepted text lent) (refused lent) .number ≡ 0 → given r (accepted text lent) (refused lent) ≡ accepted text lent
-    go none h e = refl
-    go (some r) h e = let z : ⊥ = omega (arith, h) in absurd z
-
--- demand 3, whole: for every text and every lent size, if the reading is accepted, then the first note records stand in the lent cells as counted, all other cells are 0,
--- these records agree with the look-back on every letter, and their number is opened letters plus rests plus copies
-pub demand3 : (text : List ℕ) (lent : Lent) → reading text lent .number ≡ 0 → Demand3 text (reading text lent) lent
-demand3 text lent e = record {
-  cells = ap (λ r. r .noteCells) (accepted-is text lent e);
-  looksBack = looks-back text;
-  counted = ap (λ r. r .notes) (accepted-is text lent e) ∙ note-count text;
+-- what agrees as notes agrees as they stand in the cells
+stored-agrees : (k : Attributes) (line : List ℕ) (all : List Item) (notes : List Note) → Agreed k line all notes → Agreement k line all (map noteStored notes)
+stored-agrees k line all notes a = record {
+  everyLetter = λ l. some-map noteStored _ (λ r. some-map pitchStored _ (λ q e. ap pitchStored e) (r .pitches)) notes (a .has l);
+  belongs = all-map noteStored _ notes (all-imp (λ r h. all-map pitchStored _ (r .pitches) (all-imp (λ q g. record { letter = g .letter; place = ap pos (g .place); read = ap pitchStored (g .read) }) (r .pitches) h)) notes (a .belongs));
+  onePlace = a .one;
+  opening = λ l. ap (keep _) (same notes) ∙ keep-map headingStored _ (headings notes) ∙ ap (map headingStored) (a .opening l) ∙ joins-or (backJoins k line (l .before)) _;
 }
+  where
+    same : (ns : List Note) → map (λ (r : StoredNote). r .heading) (map noteStored ns) ≡ map headingStored (headings ns)
+    same [] = refl
+    same (n ∷ ns) = ap (λ r. headingStored (n .heading) ∷ r) (same ns)
+
+    joins-or : (b : Bool) (h : Heading) → map headingStored (cond b [] (h ∷ [])) ≡ cond b [] (headingStored h ∷ [])
+    joins-or true h = refl
+    joins-or false h = refl
+
+-- the copies among the notes, as they stand in the cells
+copies-same : (line : List ℕ) (all : List Item) (notes : List Note) → length (repeatsAmong line all (headings notes)) ≡ length (copiesIn line all (map noteStored notes))
+copies-same line all notes =
+    let copies : List Note = keep (λ r. hasRepeat line all (pos (r .heading .place))) notes in
+    ap length (keep-map (λ (r : Note). r .heading) _ notes) ∙ length-map copies (λ r. r .heading)
+    ∙ sym (ap length (keep-map noteStored _ notes) ∙ length-map copies noteStored)
+
+-- demand 3, whole: for every text and every lent size, if the reading is accepted, then the first records in the note cells, as counted, agree with the look-back on every letter,
+-- and their number is opened letters plus rests plus copies
+pub demand3 : (text : List ℕ) (lent : Lent) → reading text lent .number ≡ 0 → Demand3 text (reading text lent .notes) (reading text lent .noteCells)
+demand3 text lent e = rw (accepted-is text lent e) (record {
+  agrees = rw back (stored-agrees k line all (recordsOf text) (agreed k line all (tokens-cut text)));
+  counted = rw back (count ∙ ap (λ n. openedLetters k line all + restTokens line all + n) (copies-same line all (recordsOf text)));
+})
+  where
+    k : Attributes
+    k = attributesOf text
+
+    line : List ℕ
+    line = dataOf text .bytes
+
+    all : List Item
+    all = tokensOf text
+
+    count : length (recordsOf text) ≡ openedLetters k line all + restTokens line all + length (repeatsAmong line all (headings (recordsOf text)))
+    count = rw (at-end k line all) (count-is k line all (tokens-cut text))
+
+    back : notesIn (padded (lent .notes) (noteCells (barsOf text))) (length (recordsOf text)) ≡ map noteStored (recordsOf text)
+    back = cells-back (lent .notes) (barsOf text) (all-imp (λ n h. h .pitches) (recordsOf text) (notes-fit text lent e))
+
+-- and so of every count and all cells that are the reading's
+pub demand3-of : (text : List ℕ) (lent : Lent) {count : ℕ} {cells : List ℤ} → reading text lent .number ≡ 0 → count ≡ reading text lent .notes → cells ≡ reading text lent .noteCells → Demand3 text count cells
+demand3-of text lent e c w = rw (c, w) (demand3 text lent e)

@@ -6,20 +6,21 @@ use mathlib.Core.Option.{Option, none, some, Option·getD}
 use mathlib.Core.List.{List, [], _∷_}
 use lib.IntN.{ℤ, pos}
 use lib.ListN.{getD}
-use lib.Dec.{eqb}
-use Rattle.rules.specs.Values.{element, Key}
-use Rattle.rules.specs.Tokens.{Ordered, keyIn, octaveIn, durationIn, accidentalIn, letterIn, isChord, isRest, isBarline, graceIn, graceGroupIn, Token, Item}
-use Rattle.rules.specs.Records.{_or_, isSome, given, isEmpty}
-use Rattle.rules.specs.Rules.{Accidentals, noAccidentals, fresh, pitchOf, entered, endsInNote, joins, kindOf, isGrace, lengthOf, heading, openedHeading, step, stateAfter, State, Attributes}
-use Rattle.rules.specs.LookBack.{latest, never, backOctave, backSign, backMarked, backChord, backGroup, backPattern, sinceBarline, backKey, backPitch, backJoins, backMark, backTaken, backHeading}
-use Rattle.theorems.proofs.Places.{since-bar}
+use lib.Dec.{eqb, ltb}
+use Rattle.rules.specs.Values.{Key, Length, eighth, element}
+use Rattle.rules.specs.Tokens.{keyIn, octaveIn, durationIn, letterIn, isBarline, Token, Item}
+use Rattle.rules.specs.Records.{_or_, isSome, given, isEmpty, Pitch, Heading, Note}
+use Rattle.rules.specs.Rules.{Accidentals, noAccidentals, fresh, pitchOf, entered, endsInNote, joins, kindOf, isGrace, lengthOf, heading, openedHeading, step, stateAfter, stored, State, Attributes}
+use Rattle.rules.specs.LookBack.{latest, never, keep, textOf, letterOf, groupOf, isCaret, lastBarline, isNoRest, backOctave, backAccidental, backMarked, backChord, inGraceGroup, backPattern, sinceBarline, backKey, backAlter, backJoins, backGraceSign, backKind, backTaken, backElement, backLength}
+use Rattle.theorems.proofs.Places.{barlineAt, since-bar}
+use Rattle.theorems.proofs.Cutting.{Cut, ordered}
 
 -- a default after two choices
 getD-or : {A : Type 0} (a b : Option A) (d : A) → Option·getD a (Option·getD b d) ≡ Option·getD (a or b) d
 getD-or none b d = refl
 getD-or (some a) b d = refl
 
-chord-step : (t : Token) (l c : Bool) (o : Option Token) → cond l false (c || isSome o) ≡ isSome (cond l none (cond c (some t) none or o))
+chord-step : (t : Item) (l c : Bool) (o : Option Item) → cond l false (c || isSome o) ≡ isSome (cond l none (cond c (some t) none or o))
 chord-step t true c o = refl
 chord-step t false true o = refl
 chord-step t false false o = refl
@@ -45,73 +46,114 @@ key-step true none r d = refl
 key-step true (some key) r d = refl
 key-step false o r d = refl
 
-module _ (k : Attributes) where
+-- ---- the rules' clauses and the look-back's
+
+no-rest : (ns : List Note) → endsInNote ns ≡ isNoRest ns
+no-rest [] = refl
+no-rest (n ∷ ns) = refl
+
+grace-is : (mark : Option Bool) (group : Bool) → isGrace mark group ≡ given mark group (λ slashed. true)
+grace-is none group = refl
+grace-is (some slashed) group = refl
+
+kind-is : (mark : Option Bool) (group : Bool) → kindOf mark group ≡ given mark (cond group 2 0) (λ slashed. cond slashed 3 2)
+kind-is none true = refl
+kind-is none false = refl
+kind-is (some true) group = refl
+kind-is (some false) group = refl
+
+length-is : (mark : Option Bool) (value : Length) → lengthOf mark value ≡ given mark value (λ slashed. cond slashed eighth value)
+length-is none value = refl
+length-is (some true) value = refl
+length-is (some false) value = refl
+
+module _ (k : Attributes) (line : List ℕ) where
+  -- a letter's pitch and its record's heading, as the look-back gives them
+  abbrev pub backPitch : List Item → ℕ → ℕ → Pitch
+  backPitch before place step = record { place = place; step = step; octave = backOctave before; alter = backAlter k line before step }
+
+  abbrev pub backHeading : List Item → ℕ → Heading
+  backHeading before place = heading place (backKind k line before) (backLength k line before)
+
   -- a field that a token may set, and that nothing else touches
   kept : {A : Type 0} (f : State → A) (of : Token → Option A) → ((x : Item) (s : State) → f (step x s) ≡ Option·getD (of (x .token)) (f s))
-      → (e : List Item) → f (stateAfter k e) ≡ Option·getD (latest never (λ t b. of t) e) (f (fresh k))
+      → (e : List Item) → f (stateAfter k e) ≡ Option·getD (latest never (λ x b. of (x .token)) e) (f (fresh k))
   unfolding step stateAfter
   kept f of h [] = refl
-  kept f of h (x ∷ e) = h x (stateAfter k e) ∙ ap (Option·getD (of (x .token))) (kept f of h e) ∙ getD-or (of (x .token)) (latest never (λ t b. of t) e) (f (fresh k))
+  kept f of h (x ∷ e) = h x (stateAfter k e) ∙ ap (Option·getD (of (x .token))) (kept f of h e) ∙ getD-or (of (x .token)) (latest never (λ x b. of (x .token)) e) (f (fresh k))
 
   octave-agrees : (e : List Item) → stateAfter k e .octave ≡ backOctave e
   unfolding step stateAfter
   octave-agrees = kept (λ s. s .octave) octaveIn (λ x s. refl)
 
-  group-agrees : (e : List Item) → stateAfter k e .graceGroup ≡ backGroup e
+  group-agrees : (e : List Item) → Cut line e → stateAfter k e .graceGroup ≡ inGraceGroup line e
   unfolding step stateAfter
-  group-agrees = kept (λ s. s .graceGroup) graceGroupIn (λ x s. refl)
+  group-agrees [] h = refl
+  group-agrees (x ∷ e) h = (λ i. Option·getD (h .2 .group i) (group-agrees e (h .1) i)) ∙ getD-or (groupOf (textOf line x)) (latest never (λ x b. groupOf (textOf line x)) e) false
 
   pattern-agrees : (e : List Item) → stateAfter k e .pattern ≡ backPattern e
   unfolding step stateAfter
   pattern-agrees = kept (λ s. s .pattern) durationIn (λ x s. refl)
 
-  sign-agrees : (e : List Item) → stateAfter k e .pendingAccidental ≡ backSign e
+  sign-agrees : (e : List Item) → Cut line e → stateAfter k e .pendingAccidental ≡ backAccidental line e
   unfolding step stateAfter
-  sign-agrees [] = refl
-  sign-agrees (x ∷ e) = ap (λ w. cond (isSome (letterIn (x .token))) none (accidentalIn (x .token) or w)) (sign-agrees e)
+  sign-agrees [] h = refl
+  sign-agrees (x ∷ e) h = λ i. cond (isSome (h .2 .letter i)) none (h .2 .sign i or sign-agrees e (h .1) i)
 
-  chord-agrees : (e : List Item) → stateAfter k e .chordNext ≡ isSome (backChord e)
+  chord-agrees : (e : List Item) → Cut line e → stateAfter k e .chordNext ≡ backChord line e
   unfolding step stateAfter
-  chord-agrees [] = refl
-  chord-agrees (x ∷ e) = ap (λ c. cond (isSome (letterIn (x .token))) false (isChord (x .token) || c)) (chord-agrees e) ∙ chord-step (x .token) (isSome (letterIn (x .token))) (isChord (x .token)) (backChord e)
+  chord-agrees [] h = refl
+  chord-agrees (x ∷ e) h = (λ i. cond (isSome (h .2 .letter i)) false (h .2 .caret i || chord-agrees e (h .1) i)) ∙ chord-step x (isSome (letterOf (textOf line x))) (isCaret (textOf line x)) _
 
-  accidentals-agrees : (e : List Item) (n o : ℕ) → stateAfter k e .accidentals n o ≡ backMarked n o e
+  accidentals-agrees : (e : List Item) → Cut line e → (n o : ℕ) → stateAfter k e .accidentals n o ≡ backMarked line n o e
   unfolding step stateAfter
-  accidentals-agrees [] n o = refl
-  accidentals-agrees (x ∷ e) n o =
+  accidentals-agrees [] h n o = refl
+  accidentals-agrees (x ∷ e) h n o =
       accidentals-step (isBarline (x .token)) (letterIn (x .token)) (stateAfter k e .pendingAccidental) (stateAfter k e .accidentals) (stateAfter k e .octave) n o
-      ∙ λ i. cond (isBarline (x .token)) none (given (letterIn (x .token)) none (λ m. cond (eqb n m && eqb o (octave-agrees e i)) (sign-agrees e i) none) or accidentals-agrees e n o i)
+      ∙ λ i. cond (h .2 .bar i) none (given (h .2 .letter i) none (λ m. cond (eqb n m && eqb o (octave-agrees e i)) (sign-agrees e (h .1) i) none) or accidentals-agrees e (h .1) n o i)
 
-  pub joins-agrees : (e : List Item) → Ordered e → joins (stateAfter k e) ≡ backJoins k e
-  joins-agrees e h = λ i. chord-agrees e i && endsInNote (sym (since-bar k e h) i)
+  barline-agrees : (e : List Item) → Cut line e → lastBarline line e ≡ barlineAt e
+  barline-agrees [] h = refl
+  barline-agrees (x ∷ e) h = λ i. cond (sym (h .2 .bar) i) (x .place) (barline-agrees e (h .1) i)
 
-  key-agrees : (e : List Item) → Ordered e → stateAfter k e .keyAlters ≡ backKey k e
+  since-agrees : (e : List Item) → Cut line e → stateAfter k e .openBar ≡ sinceBarline k line e
+  since-agrees e h = sym (ap (λ p. keep (λ n. ltb p (n .heading .place)) (stored (stateAfter k e))) (barline-agrees e h) ∙ since-bar k e (ordered line e h))
+
+  pub joins-agrees : (e : List Item) → Cut line e → joins (stateAfter k e) ≡ backJoins k line e
+  joins-agrees e h = λ i. chord-agrees e h i && (no-rest (stateAfter k e .openBar) ∙ ap isNoRest (since-agrees e h)) i
+
+  key-agrees : (e : List Item) → Cut line e → stateAfter k e .keyAlters ≡ backKey k line e
   unfolding step stateAfter
   key-agrees [] h = refl
   key-agrees (x ∷ e) h =
-      (λ i. cond (isEmpty (sym (since-bar k e (h .1)) i)) (given (keyIn (x .token)) (key-agrees e (h .1) i) (λ key. key .alters)) (key-agrees e (h .1) i))
-      ∙ key-step (isEmpty (sinceBarline k e)) (keyIn (x .token)) (latest never (λ t b. cond (isEmpty (sinceBarline k b)) (given (keyIn t) none (λ key. some (key .alters))) none) e) (k .keyAlters)
+      (λ i. cond (isEmpty (since-agrees e (h .1) i)) (given (keyIn (x .token)) (key-agrees e (h .1) i) (λ key. key .alters)) (key-agrees e (h .1) i))
+      ∙ key-step (isEmpty (sinceBarline k line e)) (keyIn (x .token)) (latest never (λ x b. cond (isEmpty (sinceBarline k line b)) (given (keyIn (x .token)) none (λ key. some (key .alters))) none) e) (k .keyAlters)
 
-  grace-agrees : (e : List Item) → Ordered e → stateAfter k e .pendingGrace ≡ backMark k e
+  grace-agrees : (e : List Item) → Cut line e → stateAfter k e .pendingGrace ≡ backGraceSign k line e
   unfolding step stateAfter
   grace-agrees [] h = refl
-  grace-agrees (x ∷ e) h = λ i. cond (isSome (letterIn (x .token)) && not (joins-agrees e (h .1) i)) none (graceIn (x .token) or grace-agrees e (h .1) i)
+  grace-agrees (x ∷ e) h = λ i. cond (isSome (h .2 .letter i) && not (joins-agrees e (h .1) i)) none (h .2 .grace i or grace-agrees e (h .1) i)
 
-  index-agrees : (e : List Item) → Ordered e → stateAfter k e .taken ≡ backTaken k e
+  index-agrees : (e : List Item) → Cut line e → stateAfter k e .valuesTaken ≡ backTaken k line e
   unfolding step stateAfter
   index-agrees [] h = refl
   index-agrees (x ∷ e) h = λ i. cond (isSome (durationIn (x .token))) 0
-      (cond (isRest (x .token) || (isSome (letterIn (x .token)) && not (joins-agrees e (h .1) i) && not (isGrace (grace-agrees e (h .1) i) (group-agrees e i))))
+      (cond (h .2 .dash i || (isSome (h .2 .letter i) && not (joins-agrees e (h .1) i) && not ((ap (λ m. isGrace m (stateAfter k e .graceGroup)) (grace-agrees e (h .1)) ∙ grace-is (backGraceSign k line e) (stateAfter k e .graceGroup) ∙ ap (λ g. given (backGraceSign k line e) g (λ slashed. true)) (group-agrees e (h .1))) i)))
       (suc (index-agrees e (h .1) i)) (index-agrees e (h .1) i))
 
   -- a letter's pitch and its record's heading are those that the look-back gives
-  pub pitch-agrees : (e : List Item) → Ordered e → (p n : ℕ) → pitchOf (stateAfter k e) p n ≡ backPitch k e p n
+  pub pitch-agrees : (e : List Item) → Cut line e → (p n : ℕ) → pitchOf (stateAfter k e) p n ≡ backPitch e p n
   pitch-agrees e h p n = λ i. record {
     place = p;
     step = n;
     octave = octave-agrees e i;
-    alter = Option·getD (sign-agrees e i or (accidentals-agrees e n (stateAfter k e .octave) ∙ ap (λ o. backMarked n o e) (octave-agrees e)) i) (getD (key-agrees e h i) n (pos 0));
+    alter = Option·getD (sign-agrees e h i or (accidentals-agrees e h n (stateAfter k e .octave) ∙ ap (λ o. backMarked line n o e) (octave-agrees e)) i) (getD (key-agrees e h i) n (pos 0));
   }
 
-  pub heading-agrees : (e : List Item) → Ordered e → (p : ℕ) → openedHeading (stateAfter k e) p ≡ backHeading k e p
-  heading-agrees e h p = λ i. heading p (kindOf (grace-agrees e h i) (group-agrees e i)) (lengthOf (grace-agrees e h i) (element (pattern-agrees e i) (index-agrees e h i)))
+  element-agrees : (e : List Item) → Cut line e → element (stateAfter k e .pattern) (stateAfter k e .valuesTaken) ≡ backElement k line e
+  element-agrees e h = λ i. element (pattern-agrees e i) (index-agrees e h i)
+
+  pub heading-agrees : (e : List Item) → Cut line e → (p : ℕ) → openedHeading (stateAfter k e) p ≡ backHeading e p
+  heading-agrees e h p =
+      (λ i. heading p (kindOf (grace-agrees e h i) (group-agrees e h i)) (lengthOf (grace-agrees e h i) (element-agrees e h i)))
+      ∙ λ i. heading p (kind-is (backGraceSign k line e) (inGraceGroup line e) i) (length-is (backGraceSign k line e) (backElement k line e) i)

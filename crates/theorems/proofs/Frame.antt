@@ -12,11 +12,11 @@ use Rattle.rules.specs.Text.{isDigit}
 use Rattle.rules.specs.Cut.{tokenSize}
 use Rattle.rules.specs.Tokens.{tokenOf, itemAt, Token}
 use Rattle.rules.specs.Records.{notesOf, Note}
-use Rattle.rules.specs.Rules.{renotated, step, State}
+use Rattle.rules.specs.Rules.{withNotations, step, State}
 use Rattle.rules.specs.Frame.{kindOfByte, FirstKind, octaveKind, durationKind, accidentalKind, Framed}
 
 -- a token that is no marking leaves all notations
-notations-stay : (later : ℕ) (ns : List Note) → renotated (λ later n. n .notations) later ns ≡ ns
+notations-stay : (later : ℕ) (ns : List Note) → withNotations (λ later n. n .notations) later ns ≡ ns
 notations-stay later [] = refl
 notations-stay later (n ∷ ns) = λ i. n ∷ notations-stay (suc later) ns i
 
@@ -31,7 +31,7 @@ own n = absurd (n refl)
 
 -- no record changes where neither the open bar nor the bars do
 framed : {kind : FirstKind} {s s′ : State} → s′ .openBar ≡ s .openBar → s′ .bars ≡ s .bars → (kind ≢ octaveKind → s′ .octave ≡ s .octave)
-    → (kind ≢ durationKind → (s′ .pattern ≡ s .pattern) × (s′ .taken ≡ s .taken)) → (kind ≢ accidentalKind → s′ .pendingAccidental ≡ s .pendingAccidental) → Framed kind s s′
+    → (kind ≢ durationKind → (s′ .pattern ≡ s .pattern) × (s′ .valuesTaken ≡ s .valuesTaken)) → (kind ≢ accidentalKind → s′ .pendingAccidental ≡ s .pendingAccidental) → Framed kind s s′
 framed notes bars octave pattern accidental = record {
   sameRecords = λ i. notes i ++ notesOf (bars i);
   sameOpenBar = notes;

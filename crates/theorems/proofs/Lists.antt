@@ -2,7 +2,7 @@
 use Prim.Native.Nat.{ℕ, zero, suc}
 use mathlib.Core.Path.{_≡_, refl, ap}
 use mathlib.Core.Bool.{Bool, true, false, not, cond}
-use mathlib.Core.Logic.{inr}
+use mathlib.Core.Logic.{inl, inr}
 use mathlib.Core.Option.{Option, none, some}
 use mathlib.Core.List.{List, [], _∷_, _++_, map}
 use lib.ListN.{take}
@@ -20,7 +20,11 @@ pub given-ind : {A B : Type 0} (P : B → Type 0) (o : Option A) {b : B} {f : A 
 given-ind P none h g = h
 given-ind P (some a) h g = g a
 
--- the barRepeat, with what the arm knows
+-- the same, with what the arm knows
+pub cond-case : {A : Type 0} (P : A → Type 0) (b : Bool) {x y : A} → (b ≡ true → P x) → P y → P (cond b x y)
+cond-case P true h g = h refl
+cond-case P false h g = g
+
 pub given-case : {A B : Type 0} (P : B → Type 0) (o : Option A) {b : B} {f : A → B} → P b → ((a : A) → o ≡ some a → P (f a)) → P (given o b f)
 given-case P none h g = h
 given-case P (some a) h g = g a refl
@@ -68,7 +72,24 @@ module _ {A : Type 0} where
   keep-none p [] h = refl
   keep-none p (x ∷ l) h = λ i. cond (is-false (p x) (h .0) i) (x ∷ keep-none p l (h .1) i) (keep-none p l (h .1) i)
 
+  pub keep-same : (p q : A → Bool) (l : List A) → All (λ x. p x ≡ q x) l → keep p l ≡ keep q l
+  keep-same p q [] h = refl
+  keep-same p q (x ∷ l) h = λ i. cond (h .0 i) (x ∷ keep-same p q l (h .1) i) (keep-same p q l (h .1) i)
+
 module _ {A B : Type 0} (f : A → B) where
   pub all-map : (P : B → Type 0) (l : List A) → All (λ x. P (f x)) l → All P (map f l)
   all-map P [] h = tt
   all-map P (x ∷ l) h = (h .0, all-map P l (h .1))
+
+  pub some-map : {P : A → Type 0} (Q : B → Type 0) → ((x : A) → P x → Q (f x)) → (l : List A) → Some P l → Some Q (map f l)
+  some-map Q g [] h = absurd h
+  some-map Q g (x ∷ l) (inl h) = inl (g x h)
+  some-map Q g (x ∷ l) (inr h) = inr (some-map Q g l h)
+
+  pub keep-map : (p : B → Bool) (l : List A) → keep p (map f l) ≡ map f (keep (λ x. p (f x)) l)
+  keep-map p [] = refl
+  keep-map p (x ∷ l) = go (p (f x)) (keep-map p l)
+    where
+      go : (b : Bool) → keep p (map f l) ≡ map f (keep (λ x. p (f x)) l) → cond b (f x ∷ keep p (map f l)) (keep p (map f l)) ≡ map f (cond b (x ∷ keep (λ x. p (f x)) l) (keep (λ x. p (f x)) l))
+      go true e = ap (λ r. f x ∷ r) e
+      go false e = e

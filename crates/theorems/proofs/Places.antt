@@ -1,15 +1,15 @@
 -- Where the stored records' places lie: so the notes stored since the last barline, by their places, are the open bar. Assumes nothing.
 use Prim.Native.Nat.{ℕ, suc, _≤_, _<_}
-use mathlib.Core.Path.{_≡_, refl, _∙_}
+use mathlib.Core.Path.{_≡_, refl, sym, ap, _∙_}
 use mathlib.Core.Bool.{Bool, true, false, cond}
 use mathlib.Core.List.{List, [], _∷_, _++_, map, append-nil}
 use native.Mathlib.Omega.{arith}
 use mir.Facts.{yes-ltb, no-ltb}
 use lib.Dec.{ltb}
 use Rattle.rules.specs.Tokens.{latestPlace, Ordered, letterIn, isRest, isBarline, rightIn, figureIn, Token, Item}
-use Rattle.rules.specs.Records.{notesOf, Pitch, Heading, Notations, Note}
-use Rattle.rules.specs.Rules.{close, pitchOf, joins, opens, copied, repeated, stores, addPitch, joined, notationsNext, renotated, step, stateAfter, State, Attributes}
-use Rattle.rules.specs.LookBack.{lastBarline, sinceBarline}
+use Rattle.rules.specs.Records.{isEmpty, notesOf, Pitch, Heading, Notations, Note}
+use Rattle.rules.specs.Rules.{finished, close, pitchOf, joins, opens, copied, repeated, stores, addPitch, joined, notationsNext, withNotations, step, stateAfter, stored, State, Attributes}
+use Rattle.rules.specs.LookBack.{keep}
 use Rattle.rules.specs.Agreement.{All}
 use Rattle.theorems.proofs.Lists.{cond-ind, given-ind, all-imp, all-++, keep-++, keep-all, keep-none}
 
@@ -37,29 +37,37 @@ joined-all R p t s h = given-ind (AllH R) (letterIn t) h (λ n. cond-ind (AllH R
     go q (n ∷ l) h = h
 
 -- new marks change no heading
-pub renotated-all : (R : Heading → Type 0) (f : ℕ → Note → Notations) (i : ℕ) (l : List Note) → AllH R l → AllH R (renotated f i l)
-renotated-all R f i [] h = tt
-renotated-all R f i (n ∷ l) h = (h .0, renotated-all R f (suc i) l (h .1))
+pub withNotations-all : (R : Heading → Type 0) (f : ℕ → Note → Notations) (i : ℕ) (l : List Note) → AllH R l → AllH R (withNotations f i l)
+withNotations-all R f i [] h = tt
+withNotations-all R f i (n ∷ l) h = (h .0, withNotations-all R f (suc i) l (h .1))
 
 -- what was open, marked and perhaps with one more pitch
 abbrev pub older : ℕ → Token → State → List Note
-older p t s = renotated (notationsNext t s) 0 (joined p t s)
+older p t s = withNotations (notationsNext t s) 0 (joined p t s)
 
 pub older-all : (R : Heading → Type 0) (p : ℕ) (t : Token) (s : State) → AllH R (s .openBar) → AllH R (older p t s)
-older-all R p t s h = renotated-all R (notationsNext t s) 0 (joined p t s) (joined-all R p t s h)
+older-all R p t s h = withNotations-all R (notationsNext t s) 0 (joined p t s) (joined-all R p t s h)
 
 -- a barline moves the open bar's notes to the stored bars
-pub close-notes : (r : ℕ) (s : State) (l : List Note) → notesOf (close r s l) ≡ l ++ notesOf (s .bars)
-close-notes r s [] = refl
-close-notes r s (n ∷ l) = refl
+pub close-notes : (r : ℕ) (s : State) → notesOf (close r s) ≡ s .openBar ++ notesOf (s .bars)
+close-notes r s = go (s .openBar) refl
+  where
+    go : (l : List Note) → s .openBar ≡ l → notesOf (cond (isEmpty l) (s .bars) (finished r s ∷ s .bars)) ≡ s .openBar ++ notesOf (s .bars)
+    go [] e = sym (ap (λ o. o ++ notesOf (s .bars)) e)
+    go (n ∷ l) e = refl
+
+-- the place of the last barline token, 0 where there is none
+abbrev pub barlineAt : List Item → ℕ
+barlineAt [] = 0
+barlineAt (x ∷ before) = cond (isBarline (x .token)) (x .place) (barlineAt before)
 
 module _ (k : Attributes) where
   -- the open bar's records stand after the last barline, the others not; none stands after the latestPlace token
   pub record Sites (e : List Item) (s : State) : Type 0 where
-    pub after : AllH (λ h. lastBarline e < h .place) (s .openBar)
+    pub after : AllH (λ h. barlineAt e < h .place) (s .openBar)
     pub till : AllH (λ h. h .place ≤ latestPlace e) (s .openBar)
-    pub before : AllH (λ h. h .place ≤ lastBarline e) (notesOf (s .bars))
-    pub low : lastBarline e ≤ latestPlace e
+    pub before : AllH (λ h. h .place ≤ barlineAt e) (notesOf (s .bars))
+    pub low : barlineAt e ≤ latestPlace e
 
   sites-step : (x : Item) (e : List Item) (s : State) → latestPlace e < x .place → Sites e s → Sites (x ∷ e) (step x s)
   unfolding step stateAfter
@@ -73,13 +81,13 @@ module _ (k : Attributes) where
     low = cond-ind (λ b. b ≤ x .place) (isBarline (x .token)) (omega arith) (omega (arith, i .low));
   }
     where
-      after : (b : Bool) → AllH (λ g. cond b (x .place) (lastBarline e) < g .place) (cond b [] (stores (x .place) (x .token) s ++ older (x .place) (x .token) s))
+      after : (b : Bool) → AllH (λ g. cond b (x .place) (barlineAt e) < g .place) (cond b [] (stores (x .place) (x .token) s ++ older (x .place) (x .token) s))
       after true = tt
-      after false = all-++ (λ n. lastBarline e < n .heading .place) (stores (x .place) (x .token) s) (older (x .place) (x .token) s)
+      after false = all-++ (λ n. barlineAt e < n .heading .place) (stores (x .place) (x .token) s) (older (x .place) (x .token) s)
           (all-imp (λ n q. omega (arith, i .low)) (stores (x .place) (x .token) s) (stores-here (x .place) (x .token) s))
-          (older-all (λ g. lastBarline e < g .place) (x .place) (x .token) s (i .after))
+          (older-all (λ g. barlineAt e < g .place) (x .place) (x .token) s (i .after))
 
-      before : (b : Bool) → AllH (λ g. g .place ≤ cond b (x .place) (lastBarline e)) (notesOf (cond b (close (rightIn (x .token)) s (s .openBar)) (s .bars)))
+      before : (b : Bool) → AllH (λ g. g .place ≤ cond b (x .place) (barlineAt e)) (notesOf (cond b (close (rightIn (x .token)) s) (s .bars)))
       before true = rw close-notes (all-++ (λ n. n .heading .place ≤ x .place) (s .openBar) (notesOf (s .bars))
           (all-imp (λ n q. omega arith) (s .openBar) (i .till))
           (all-imp (λ n q. omega (arith, i .low)) (notesOf (s .bars)) (i .before)))
@@ -90,11 +98,18 @@ module _ (k : Attributes) where
   sites [] h = record { after = tt; till = tt; before = tt; low = omega arith }
   sites (x ∷ e) h = sites-step x e (stateAfter k e) (h .0) (sites e (h .1))
 
-  pub since-bar : (e : List Item) → Ordered e → sinceBarline k e ≡ stateAfter k e .openBar
+  -- no stored record stands after the latest token
+  pub places-till : (e : List Item) → Ordered e → AllH (λ h. h .place ≤ latestPlace e) (stored (stateAfter k e))
+  places-till e h =
+      let s : State = stateAfter k e in
+      let i : Sites e s = sites e h in
+      all-++ (λ r. r .heading .place ≤ latestPlace e) (s .openBar) (notesOf (s .bars)) (i .till) (all-imp (λ r b. omega (arith, i .low)) (notesOf (s .bars)) (i .before))
+
+  pub since-bar : (e : List Item) → Ordered e → keep (λ n. ltb (barlineAt e) (n .heading .place)) (stored (stateAfter k e)) ≡ stateAfter k e .openBar
   since-bar e h =
       let s : State = stateAfter k e in
       let i : Sites e s = sites e h in
-      let late : Note → Bool = λ n. ltb (lastBarline e) (n .heading .place) in
+      let late : Note → Bool = λ n. ltb (barlineAt e) (n .heading .place) in
       keep-++ late (s .openBar) (notesOf (s .bars))
       ∙ (λ j. keep-all late (s .openBar) (all-imp (λ n q. yes-ltb q) (s .openBar) (i .after)) j
       ++ keep-none late (notesOf (s .bars)) (all-imp (λ n q. no-ltb q) (notesOf (s .bars)) (i .before)) j)

@@ -1,6 +1,7 @@
 -- Clefs, keys and meters of the program as document 01's numbers and values. Assumes nothing.
 use Prim.Native.Nat.{ℕ}
 use mathlib.Core.Option.{Option, none, some}
+use lib.IntN.{ℤ, pos, negsuc}
 use Rattle.rules.specs.Values as rules
 use Rattle.rules.specs.Values.{treble}
 use Rattle.values.specs.declared.attributes.Clef.{Clef}
@@ -9,6 +10,8 @@ use Rattle.values.specs.declared.attributes.NamedClef.{NamedClef}
 use Rattle.values.specs.declared.attributes.NamedClef.the-variants.{Known, Unknown}
 use Rattle.values.specs.declared.attributes.ClefValue.{ClefValue}
 use Rattle.values.specs.declared.attributes.Key.{Key}
+use Rattle.values.specs.declared.attributes.Sign.{Sign}
+use Rattle.values.specs.declared.attributes.Sign.the-variants.{None, Sharp, Flat}
 use Rattle.values.specs.declared.attributes.Meter.{Meter}
 use Rattle.values.specs.declared.attributes.Meter.the-variants.{Set, Refused}
 
@@ -35,6 +38,12 @@ clefValue v = record { clef = clefOption (v .clef); mensural = v .mensural }
 -- what a key's value says
 abbrev pub keyValue : Key → rules.Key
 keyValue k = record { alters = k .alters; fifths = k .fifths; standard = k .standard }
+
+-- the alteration that a sign gives, if there is a sign
+abbrev pub signOption : Sign → Option ℤ
+signOption None = none
+signOption Sharp = some (pos 1)
+signOption Flat = some (negsuc 0)
 
 -- a meter that is set, or none
 abbrev pub meterOption : Meter → Option rules.Meter

@@ -1,3 +1,2 @@
 pub mod Attributes
-pub mod Pae
 pub mod Rhythm

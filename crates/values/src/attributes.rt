@@ -1,17 +1,18 @@
 // What the values of a clef, a key and a meter say.
 ghost use mathlib.Core.Path.{_≡_};
 ghost use mathlib.Core.Bool.{not, _&&_};
+ghost use mathlib.Core.Option.{none};
 ghost use mathlib.Core.List.{[], _∷_, _++_};
 ghost use Prim.Native.Nat.{_≤_};
 ghost use lib.Dec.{eqb};
 ghost use lib.IntN.{pos, negℤ};
 ghost use lib.ListN.{length};
 ghost use Rattle.rules.specs.Text.{bytes, begins, has};
-ghost use Rattle.rules.specs.Values.{clefNamed, clefOf, stepOf, signAfter, isNamed, named, altersFrom, noAlters, lettersFrom, isExpected, allExpected, keyOf, afterPlus, countOf, isPowerOfTwo, plainMeter, meterOf};
+ghost use Rattle.rules.specs.Values.{clefNamed, clefOf, signAfter, isNamed, named, altersFrom, noAlters, lettersFrom, isExpected, allExpected, keyOf, afterPlus, countOf, isPowerOfTwo, plainMeter, meterOf};
 ghost use Rattle.text.specs.Counts.{numberIn};
-ghost use Rattle.values.specs.Attributes.{clefNumber, clefOption, clefValue, keyValue, meterOption};
-use crate::pae::Pae;
+ghost use Rattle.values.specs.Attributes.{clefNumber, clefOption, clefValue, keyValue, signOption, meterOption};
 use crate::rhythm::step_of;
+use limits::Pae;
 use text::Class;
 use text::Count;
 
@@ -44,6 +45,13 @@ pub struct Key {
     pub fifths: i8,
     // gives no d6
     pub standard: bool,
+}
+
+// The nearest sign before a byte of a key's value: none, `x` or `b`.
+enum Sign {
+    None,
+    Sharp,
+    Flat,
 }
 
 pub enum Meter {
@@ -136,53 +144,56 @@ pub fn clef_of(value: &[u8]) -> ClefValue
     }
 }
 
-// The nearest sign before the next byte: 0 none, 1 `x`, 2 `b`.
-fn sign_after(sign: u8, b: u8) -> u8
-    ensures { λ r. ⌜ r ≡ signAfter sign b ⌝ }
+// The nearest sign before the next byte.
+fn sign_after(sign: Sign, b: u8) -> Sign
+    ensures { λ r. ⌜ signOption r ≡ signAfter (signOption sign) b ⌝ }
 {
     if b == b'x' {
-        1
+        Sign::Sharp
     } else if b == b'b' {
-        2
+        Sign::Flat
     } else {
         sign
     }
 }
 
 // Whether the byte is a letter after a sign.
-fn is_named(sign: u8, b: u8) -> bool
-    ensures { λ r. ⌜ r ≡ isNamed sign b ⌝ }
+fn is_named(sign: Sign, b: u8) -> bool
+    ensures { λ r. ⌜ r ≡ isNamed (signOption sign) b ⌝ }
 {
-    ((b'A' <= b) & (b <= b'G')) & !(sign == 0)
+    match sign {
+        Sign::None => false,
+        Sign::Sharp | Sign::Flat => text::is_note_letter(b),
+    }
 }
 
-fn is_expected(sign: u8, b: u8) -> bool
-    ensures { λ r. ⌜ r ≡ isExpected sign b ⌝ }
+fn is_expected(sign: Sign, b: u8) -> bool
+    ensures { λ r. ⌜ r ≡ isExpected (signOption sign) b ⌝ }
 {
     (b == b'x') | (b == b'b') | (b == 32) | is_named(sign, b)
 }
 
 // The alterations with that of a named letter.
-fn with_named(alters: [i8; 7], sign: u8, b: u8) -> [i8; 7]
-    ensures { λ r. ⌜ r ≡ named alters sign b ⌝ }
+fn with_named(alters: [i8; 7], sign: Sign, b: u8) -> [i8; 7]
+    ensures { λ r. ⌜ r ≡ named alters (signOption sign) b ⌝ }
 {
     let mut r = alters;
     if is_named(sign, b) {
         let step = step_of(b) as usize;
-        if sign == 1 {
-            r[step] = 1;
-        } else {
-            r[step] = -1;
+        match sign {
+            Sign::None => {}
+            Sign::Sharp => r[step] = 1,
+            Sign::Flat => r[step] = -1,
         }
     }
     r
 }
 
 fn alters_of(value: &[u8]) -> [i8; 7]
-    ensures { λ r. ⌜ r ≡ altersFrom noAlters 0 (now (value .entry)) ⌝ }
+    ensures { λ r. ⌜ r ≡ altersFrom noAlters none (now (value .entry)) ⌝ }
 {
     let mut alters: [i8; 7] = [0; 7];
-    let mut sign: u8 = 0;
+    let mut sign = Sign::None;
     let mut i = 0;
     while i < value.len() {
         let b = value[i];
@@ -195,9 +206,9 @@ fn alters_of(value: &[u8]) -> [i8; 7]
 }
 
 fn all_expected(value: &[u8]) -> bool
-    ensures { λ r. ⌜ r ≡ allExpected 0 (now (value .entry)) ⌝ }
+    ensures { λ r. ⌜ r ≡ allExpected none (now (value .entry)) ⌝ }
 {
-    let mut sign: u8 = 0;
+    let mut sign = Sign::None;
     let mut i = 0;
     while i < value.len() {
         let b = value[i];
@@ -212,9 +223,9 @@ fn all_expected(value: &[u8]) -> bool
 
 // How many letters the value names.
 fn letter_count(value: &[u8]) -> usize
-    ensures { λ r. ⌜ r ≡ length (lettersFrom 0 (now (value .entry))) ⌝ }
+    ensures { λ r. ⌜ r ≡ length (lettersFrom none (now (value .entry))) ⌝ }
 {
-    let mut sign: u8 = 0;
+    let mut sign = Sign::None;
     let mut n: usize = 0;
     let mut i = 0;
     while i < value.len() {
@@ -230,9 +241,9 @@ fn letter_count(value: &[u8]) -> usize
 
 // Whether the named letters are a beginning of the order.
 fn in_order(value: &[u8], order: &[u8]) -> bool
-    ensures { λ r. ⌜ r ≡ begins (lettersFrom 0 (now (value .entry))) (now (order .entry)) ⌝ }
+    ensures { λ r. ⌜ r ≡ begins (lettersFrom none (now (value .entry))) (now (order .entry)) ⌝ }
 {
-    let mut sign: u8 = 0;
+    let mut sign = Sign::None;
     let mut k: usize = 0;
     let mut i = 0;
     while i < value.len() {
@@ -254,7 +265,7 @@ fn in_order(value: &[u8], order: &[u8]) -> bool
 
 // The same, with no sign of the other kind in the value.
 fn is_pure(value: &[u8], order: &[u8], other: u8) -> bool
-    ensures { λ r. ⌜ r ≡ begins (lettersFrom 0 (now (value .entry))) (now (order .entry)) && not (has (λ b. eqb b other) (now (value .entry))) ⌝ }
+    ensures { λ r. ⌜ r ≡ begins (lettersFrom none (now (value .entry))) (now (order .entry)) && not (has (λ b. eqb b other) (now (value .entry))) ⌝ }
 {
     in_order(value, order) & !(text::run(value, Class::Except(other)) < value.len())
 }

@@ -6,6 +6,7 @@ ghost use lib.ListN.{length};
 ghost use Rattle.rules.specs.Values.{stepOf, durationOf, raisedOctave, loweredOctave, sharpened, flattened, dotsAt, capped, normalOf};
 ghost use Rattle.rules.specs.Tokens.{slashes, colons};
 ghost use Rattle.values.specs.Rhythm.{octaveIn, barlineIn, keptLimit, elementAt, keeping, valueOf, quarterPattern, withElement, patternAt, firstOf, settled, valueAt, lengthIn, staying, Ready};
+use limits::Pae;
 
 // The octave that a run of `'` or `,` sets, where it is 0 to 9.
 pub enum Octave {
@@ -18,9 +19,6 @@ pub struct Barline {
     pub right: u8,
     pub left: u8,
 }
-
-// Dots cap at 3.
-const DOT_LIMIT: usize = 3;
 
 // How many lengths of a pattern are kept beside the text, each as a code: four times its duration and its dots.
 pub const KEPT: usize = 256;
@@ -85,7 +83,7 @@ pub fn duration_of(digit: u8) -> u8
 pub fn raised_octave(size: usize) -> Octave
     ensures { λ r. ⌜ octaveIn r ≡ raisedOctave size ⌝ }
 {
-    if size <= 6 {
+    if size <= Pae::MAX_OCTAVE - 3 {
         return Octave::Set(3 + size as u8);
     }
     Octave::OutOfRange
@@ -158,10 +156,10 @@ pub fn normal_of(actual: u8) -> u8
 fn capped(dots: usize) -> u8
     ensures { λ r. ⌜ r ≡ capped dots ⌝ }
 {
-    if dots < DOT_LIMIT {
+    if dots < Pae::MAX_DOTS {
         return dots as u8;
     }
-    DOT_LIMIT as u8
+    Pae::MAX_DOTS as u8
 }
 
 // The dots at the start of a text.

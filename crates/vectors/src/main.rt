@@ -5,6 +5,7 @@ ghost use Prim.Native.Nat.{_≤_};
 ghost use lib.ListN.{length};
 use libc::STDIN_FILENO;
 use libc::STDOUT_FILENO;
+use limits::Pae;
 use reading::read::Reading;
 use reading::read::read;
 use records::cells::BAR;
@@ -14,7 +15,6 @@ use records::cells::NOTE;
 use records::cells::PITCH;
 use records::cells::clear;
 use records::cells::natural;
-use records::diagnostic::DIAGNOSTICS;
 use records::note::PITCH_COUNT;
 use show::byte_at;
 use show::magnitude;
@@ -24,7 +24,7 @@ use show::word_at;
 const LIST: usize = 1048576;
 
 // A text has at most so many bytes.
-const TEXT: usize = 65535;
+const TEXT: usize = Pae::MAX_INPUT_BYTES;
 
 // Lent for every text: 1,024 notes, 512 bars, 512 notes of a figure, 1,024 diagnostics.
 const NOTES: usize = 1024 * NOTE;
@@ -33,7 +33,7 @@ const BARS: usize = 512 * BAR;
 
 const FIGURE: usize = 512 * NOTE;
 
-const CELLS: usize = DIAGNOSTICS;
+const CELLS: usize = Pae::MAX_DIAGNOSTICS;
 
 const SCRATCH: usize = CELLS * DIAGNOSTIC;
 

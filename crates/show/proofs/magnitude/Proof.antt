@@ -10,7 +10,7 @@ use mir.Syntax.{w32}
 use mir.Facts.{toZ-ofZ}
 use borrow.Author.Needs.{needs}
 use borrow.Author.Tests.{le-ltb}
-use Rattle.records.specs.Cells.{natural}
+use Rattle.rules.specs.Stored.{natural}
 use Rattle.show.proofs.magnitude.Statement.{statement}
 use Rattle.show.proofs.magnitude.Tie as tie
 

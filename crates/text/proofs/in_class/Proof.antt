@@ -1,3 +1,4 @@
+use mathlib.Core.Bool.{or-assoc, or-false}
 use borrow.Author.Needs.{needs}
 use Rattle.text.proofs.in_class.Statement.{statement}
 use Rattle.text.proofs.in_class.Tie as tie
@@ -28,6 +29,6 @@ in-class-spec =
     (λ c. rw (c .before .enum-told2 .given .1, c .is-blank2 .ensures))
     (λ c. rw (c .before .enum-told3 .given .1) (c .is-digit .ensures))
     (λ c. rw (c .before .enum-told4 .given .1, c .is-digit2 .ensures))
-    (λ c. rw (c .before .enum-told5 .given .1, c .is-note-letter .ensures))
-    (λ c. rw (c .before .enum-told6 .given .1, c .is-digit3 .ensures))
+    (λ c. rw (c .before .enum-told5 .given .1, c .is-note-letter .ensures) (simp (or-assoc, or-false)))
+    (λ c. rw (c .before .enum-told6 .given .1, c .is-digit3 .ensures) (simp (or-assoc, or-false)))
     (λ c. rw (c .before .enum-told7 .given .1) (c .is-alphabetic .ensures)))

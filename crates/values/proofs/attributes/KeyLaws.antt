@@ -3,24 +3,25 @@ use Prim.Native.Nat.{ℕ, zero, suc, _+_, _≤_, _<_}
 use native.Mathlib.Omega.{arith}
 use native.Mathlib.Numerals.{one-add}
 use mathlib.Core.Path.{_≡_, refl}
-use mathlib.Core.Bool.{Bool, true, false, not, _&&_, _||_}
+use mathlib.Core.Bool.{Bool, true, false, not, _&&_, _||_, false≢true}
+use mathlib.Core.Option.{Option, none, some}
 use mathlib.Core.List.{List, [], _∷_}
 use borrow.Author.Tests.{leb-true, ltb-true, lt-ltb, eq-eqb, ne-eqb}
 use lib.Dec.{eqb, leb, ltb, leb·suc-suc}
-use lib.IntN.{pos, negℤ, _-ℤ_, +ℤ-idl}
+use lib.IntN.{ℤ, pos, negℤ, _-ℤ_, +ℤ-idl}
 use lib.ListN.{length, getD, drop, drop-of-length-le}
 use mir.Syntax.{w8}
 use mir.Val.{SFits}
 use mir.Facts.{sfits-lit}
 use Rattle.rules.specs.Text.{bytes, if_then_else_, isNoteLetter, runLength, has, begins}
-use Rattle.rules.specs.Values.{stepOf, signAfter, isNamed, isExpected, allExpected, lettersFrom, areSharps, areFlats, keyWith, keyOf}
+use Rattle.rules.specs.Values.{stepOf, signAfter, isNamed, named, isExpected, allExpected, lettersFrom, areSharps, areFlats, keyWith, keyOf}
 use Rattle.text.proofs.PartLaws.{next-element}
 use Rattle.text.proofs.BeginsLaws.{begins-within}
 use Rattle.values.proofs.Below.{below}
 use Rattle.text.proofs.BoolLaws.{both}
 
 -- the value from place i on
-module _ (xs : List ℕ) (s i : ℕ) (h : i < length xs) where
+module _ (xs : List ℕ) (s : Option ℤ) (i : ℕ) (h : i < length xs) where
   pub expected-not : isExpected s (getD xs i 0) ≡ false → allExpected s (drop i xs) ≡ false
   expected-not e = rw (next-element xs i h, e)
 
@@ -34,7 +35,7 @@ module _ (xs : List ℕ) (s i : ℕ) (h : i < length xs) where
   letters-other e = rw (next-element xs i h, e)
 
 -- a letter at place i against the order at place k
-module _ (xs order : List ℕ) (s i k : ℕ) (h : i < length xs) (n : isNamed s (getD xs i 0) ≡ true) where
+module _ (xs order : List ℕ) (s : Option ℤ) (i k : ℕ) (h : i < length xs) (n : isNamed s (getD xs i 0) ≡ true) where
   pub order-ends : length order ≤ k → begins (lettersFrom s (drop i xs)) (drop k order) ≡ false
   order-ends l = rw (letters-named xs s i h n, drop-of-length-le order l)
 
@@ -59,9 +60,6 @@ run-has k (x ∷ xs) = at (eqb x k) (run-has k xs)
 pub letter-bounds : (b : ℕ) → isNoteLetter b ≡ true → (65 ≤ b) × (b ≤ 71)
 letter-bounds b h = let e : (leb 65 b ≡ true) × (leb b 71 ≡ true) = both (leb 65 b) (leb b 71) h in (leb-true 65 b (e .0), leb-true b 71 (e .1))
 
-pub named-bounds : (s b : ℕ) → isNamed s b ≡ true → (65 ≤ b) × (b ≤ 71)
-named-bounds s b e = letter-bounds b (both (isNoteLetter b) (not (eqb s 0)) e .0)
-
 -- and has one of the seven steps
 letterStep : ℕ → Bool
 letterStep b = not (isNoteLetter b) || ltb (stepOf b) 7
@@ -70,37 +68,43 @@ pub letter-step : (b : ℕ) → b < 256 → isNoteLetter b ≡ true → stepOf b
 unfolding letterStep
 letter-step b h e = ltb-true _ _ (rw e at (below letterStep 256 refl b h))
 
-pub named-step : (s b : ℕ) → b < 256 → isNamed s b ≡ true → stepOf b < 7
-named-step s b h e = letter-step b h (both (isNoteLetter b) (not (eqb s 0)) e .0)
+-- what is named is a letter; what is not leaves the alterations
+pub named-letter : (s : Option ℤ) (b : ℕ) → isNamed s b ≡ true → isNoteLetter b ≡ true
+named-letter none b e = absurd (false≢true e)
+named-letter (some sign) b e = e
+
+pub named-other : (a : List ℤ) (s : Option ℤ) (b : ℕ) → isNamed s b ≡ false → named a s b ≡ a
+named-other a none b e = refl
+named-other a (some sign) b e = rw e
 
 -- the key, by the tests of its letters
 module _ (xs : List ℕ) where
   -- letters in an order of seven are few
-  few : (order : List ℕ) → length order ≡ 7 → (t : Bool) → begins (lettersFrom 0 xs) order && t ≡ true → length (lettersFrom 0 xs) ≤ 7
-  few order l t e = omega (arith, begins-within (lettersFrom 0 xs) order (both _ t e .0))
+  few : (order : List ℕ) → length order ≡ 7 → (t : Bool) → begins (lettersFrom none xs) order && t ≡ true → length (lettersFrom none xs) ≤ 7
+  few order l t e = omega (arith, begins-within (lettersFrom none xs) order (both _ t e .0))
 
-  pub sharps-few : areSharps xs ≡ true → length (lettersFrom 0 xs) ≤ 7
+  pub sharps-few : areSharps xs ≡ true → length (lettersFrom none xs) ≤ 7
   sharps-few e = few (bytes "FCGDAEB") refl _ e
 
-  pub flats-few : areFlats xs ≡ true → length (lettersFrom 0 xs) ≤ 7
+  pub flats-few : areFlats xs ≡ true → length (lettersFrom none xs) ≤ 7
   flats-few e = few (bytes "BEADGCF") refl _ e
 
-  pub key-none : length (lettersFrom 0 xs) ≡ 0 → keyOf xs ≡ keyWith xs (pos 0) (allExpected 0 xs)
+  pub key-none : length (lettersFrom none xs) ≡ 0 → keyOf xs ≡ keyWith xs (pos 0) (allExpected none xs)
   unfolding keyOf
-  key-none e = rw (eq-eqb (length (lettersFrom 0 xs)) 0 e)
+  key-none e = rw (eq-eqb (length (lettersFrom none xs)) 0 e)
 
-  module _ (n : length (lettersFrom 0 xs) ≡ 0 → ⊥) where
-    pub key-sharps : areSharps xs ≡ true → keyOf xs ≡ keyWith xs (pos (length (lettersFrom 0 xs))) (allExpected 0 xs)
+  module _ (n : length (lettersFrom none xs) ≡ 0 → ⊥) where
+    pub key-sharps : areSharps xs ≡ true → keyOf xs ≡ keyWith xs (pos (length (lettersFrom none xs))) (allExpected none xs)
     unfolding keyOf
-    key-sharps s = rw (ne-eqb (length (lettersFrom 0 xs)) 0 n, s)
+    key-sharps s = rw (ne-eqb (length (lettersFrom none xs)) 0 n, s)
 
-    pub key-flats : areSharps xs ≡ false → areFlats xs ≡ true → keyOf xs ≡ keyWith xs (negℤ (pos (length (lettersFrom 0 xs)))) (allExpected 0 xs)
+    pub key-flats : areSharps xs ≡ false → areFlats xs ≡ true → keyOf xs ≡ keyWith xs (negℤ (pos (length (lettersFrom none xs)))) (allExpected none xs)
     unfolding keyOf
-    key-flats s f = rw (ne-eqb (length (lettersFrom 0 xs)) 0 n, s, f)
+    key-flats s f = rw (ne-eqb (length (lettersFrom none xs)) 0 n, s, f)
 
     pub key-mixed : areSharps xs ≡ false → areFlats xs ≡ false → keyOf xs ≡ keyWith xs (pos 0) false
     unfolding keyOf
-    key-mixed s f = rw (ne-eqb (length (lettersFrom 0 xs)) 0 n, s, f)
+    key-mixed s f = rw (ne-eqb (length (lettersFrom none xs)) 0 n, s, f)
 
 -- 0 - n is -n, which eight bits hold
 pub from-zero : (n : ℕ) → pos 0 -ℤ pos n ≡ negℤ (pos n)

@@ -1,6 +1,6 @@
 use mathlib.Core.Path.{ap}
 use borrow.Author.Needs.{needs}
-use Rattle.values.specs.declared.pae.Pae.{Pae}
+use Rattle.limits.specs.declared.Pae.{Pae}
 use Rattle.steps.specs.State.{withAttributes}
 use Rattle.reading.specs.Walk.{withDiagnostics}
 use Rattle.reading.proofs.data.begin.Statement.{statement}

@@ -19,9 +19,10 @@ use Rattle.rules.specs.Words.{diagnosticWords}
 use Rattle.rules.specs.Rules.{closing}
 use Rattle.rules.specs.Diagnostics.{unless}
 use Rattle.text.proofs.BoolLaws.{both}
+use Rattle.text.proofs.TokenLaws.{token-some, token-within}
 use Rattle.values.specs.Rhythm.{Keeping, keptLimit, keeping, lengthIn, firstOf}
-use Rattle.values.specs.declared.pae.Attributes.{Attributes}
-use Rattle.values.specs.declared.pae.Pae.{Pae}
+use Rattle.limits.specs.declared.Attributes.{Attributes}
+use Rattle.limits.specs.declared.Pae.{Pae}
 use Rattle.values.specs.declared.rhythm.Cursor.{Cursor}
 use Rattle.values.specs.declared.rhythm.Octave.{Octave}
 use Rattle.values.specs.declared.rhythm.Value.{Value}
@@ -46,7 +47,7 @@ use Rattle.checks.specs.Checks.{storing, checkOf}
 use Rattle.checks.specs.declared.Room.{Room}
 use Rattle.checks.proofs.TestLaws.{joins-some, repeated-small}
 use Rattle.diagnose.specs.Found.{countAfterAll, cellsAfterAll}
-use Rattle.remarks.specs.Remarks.{SpanFits, itemIn, whole, clefFound, keyFound, meterFound, markFound, countFound, groupFound}
+use Rattle.remarks.specs.Remarks.{SpanFits, spanOf, itemIn, whole, clefFound, keyFound, meterFound, markFound, countFound, groupFound}
 use Rattle.remarks.specs.declared.Span.{Span}
 use Rattle.reading.specs.declared.data.Outcome.{Outcome}
 use Rattle.reading.specs.Cells.{figureCopied, barCopied, notesNext, barsNext, heldNext}
@@ -138,13 +139,13 @@ module _ (x : tie.After-span-of Inv-loop μ-loop) where
   within-here = not-beyond bytes start (attributesIn taken) (x .before .before .before .before .before .before .before .before .before .before .before .before .args .diagnostics) (x .before .before .before .before .before .before .before .before .before .before .before .before .args .scratch .now) (length (x .before .before .before .before .before .before .before .before .before .before .before .before .args .notes .now)) (length (x .before .before .before .before .before .before .before .before .before .before .before .before .args .bars .now)) (length (x .before .before .before .before .before .before .before .before .before .before .before .before .args .figure .now)) room 0 (x .before .before .before .before .before .loop .inv) (x .before .before .before .before .loop-test .taken) end (x .before .before .before .token-end .ensures) (x .before .decode .result) (x .before .decode .ensures) joining refl
 
   -- its place, and where its diagnostics stand
-  place-is : x .span-of .result .place ≡ at + 1
-  place-is = ap (λ (s : Span). s .place) (x .span-of .ensures)
+  place-is : x .span-of .result .place .0 ≡ at + 1
+  place-is = ap (λ (s : Span). s .place .0) (x .span-of .ensures)
 
   fits-here : SpanFits (x .span-of .result)
   fits-here = rw (x .span-of .ensures) (omega (arith, x .before .before .before .before .loop-test .taken, x .before .before .before .before .before .before .before .before .before .before .before .before .pre .short), omega (arith, further-here), omega (arith, further-here, within-here, x .before .before .before .before .before .before .before .before .before .before .before .before .pre .ends))
 
-  found-here : (what : rules.Item → List Diagnostic) {words : List (List ℤ)} → words ≡ map diagnosticWords (what (itemIn (x .span-of .result))) → words ≡ map diagnosticWords (what (itemIn (record { place = at + 1; offset = start + at; size = end - at })))
+  found-here : (what : rules.Item → List Diagnostic) {words : List (List ℤ)} → words ≡ map diagnosticWords (what (itemIn (x .span-of .result))) → words ≡ map diagnosticWords (what (itemIn (spanOf at end start)))
   found-here what e = e ∙ ap (λ (s : Span). map diagnosticWords (what (itemIn s))) (x .span-of .ensures)
 
   -- the notes stand in the cells
@@ -161,7 +162,7 @@ module _ (x : tie.After-span-of Inv-loop μ-loop) where
 
     module _ (joined : Bool) (joins : joining ≡ joined) where
       -- a check fails
-      stop-here : {o : Outcome} (number : ℕ) → o ≡ record { number = number; place = x .span-of .result .place; st = st } → number ≡ checkOf token st joined notes room → (number ≡ 0 → ⊥) → Ends (x .before .before .before .before .before .before .before .before .before .before .before .before .args .attributes) o
+      stop-here : {o : Outcome} (number : ℕ) → o ≡ record { number = number; place = x .span-of .result .place .0; st = st } → number ≡ checkOf token st joined notes room → (number ≡ 0 → ⊥) → Ends (x .before .before .before .before .before .before .before .before .before .before .before .before .args .attributes) o
       stop-here number stopped fails z =
           subst (Ends (x .before .before .before .before .before .before .before .before .before .before .before .before .args .attributes)) (sym (stopped ∙ (λ i. record { number = number; place = place-is i; st = st })))
           (subst (λ (k : Attributes). Ends k (record { number = number; place = at + 1; st = st })) (ap (λ (k : Pae). k .attributes) (x .before .before .before .before .before .before .before .begin .ensures))
@@ -232,17 +233,10 @@ sub-decode : tie.Need-sub-decode Inv-loop μ-loop
 sub-decode c = omega (arith, c .before .token-end .ensures)
 
 decode-requires : tie.Need-decode-requires Inv-loop μ-loop
-decode-requires c κs = tt
+decode-requires c κs = omega (arith, c .before .token-end .ensures, token-some (c .before .before .before .before .before .before .before .before .before .before .args .«data» .now) (c .before .before .before .loop .at) (c .before .before .loop-test .taken))
 
 span-of-requires : tie.Need-span-of-requires Inv-loop μ-loop
-span-of-requires c κs =
-    let a = c .before .before .before .before .before .before .before .before .before .before .before .args in
-    let k = attributesIn (c .before .before .before .before .before .before .begin .result .attributes) in
-    let l = c .before .before .before .before .loop in
-    let joining = joinsOf (l .st .voice) (l .st .counts) (l .notes) in
-    let on = further (a .«data» .now) (a .start) k (a .diagnostics) (a .scratch .now) (length (a .notes .now)) (length (a .bars .now)) (length (a .figure .now)) (a .room) 0 (l .inv) (c .before .before .before .loop-test .taken) (c .before .before .token-end .result) (c .before .before .token-end .ensures) (c .decode .result) (c .decode .ensures) joining refl in
-    let inside = not-beyond (a .«data» .now) (a .start) k (a .diagnostics) (a .scratch .now) (length (a .notes .now)) (length (a .bars .now)) (length (a .figure .now)) (a .room) 0 (l .inv) (c .before .before .before .loop-test .taken) (c .before .before .token-end .result) (c .before .before .token-end .ensures) (c .decode .result) (c .decode .ensures) joining refl in
-    (on, omega (arith, inside, c .before .before .before .before .before .before .before .before .before .before .before .pre .ends))
+span-of-requires c κs = (omega (arith, c .before .before .token-end .ensures, token-some (c .before .before .before .before .before .before .before .before .before .before .before .args .«data» .now) (c .before .before .before .before .loop .at) (c .before .before .before .loop-test .taken)), omega (arith, c .before .before .token-end .ensures, token-within (c .before .before .before .before .before .before .before .before .before .before .before .args .«data» .now) (c .before .before .before .before .loop .at) (c .before .before .before .loop-test .taken), c .before .before .before .before .before .before .before .before .before .before .before .pre .ends))
 
 enum-told : tie.Need-enum-told Inv-loop μ-loop
 enum-told c = search needs
@@ -968,7 +962,7 @@ unfolding remarked stepped takenNext notesNext barsNext heldNext
 loop-again-21 c =
     let s = c .before .before .before .before .before .before .before .before .before .before .before .before .before .before .before .before .before .before .before .before .before .before .before .before .loop .st in
     let r = c .before .before .before .before .before .store-found10 in
-    let words = found-here (c .before .before .before .before .before .before .before .before .before .before .before .before .before .before .before .before .before .before .before) (groupFound (s .groups) (s .counts) (closingOf (c .before .before .before .before .before .before .before .before .group-closing .result))) (c .before .before .before .before .before .before .before .group-found .ensures) ∙ ap (map diagnosticWords) (found-noted (s .groups) (s .counts) (itemIn (record { place = c .before .before .before .before .before .before .before .before .before .before .before .before .before .before .before .before .before .before .before .before .before .before .before .before .loop .at + 1; offset = c .before .before .before .before .before .before .before .before .before .before .before .before .before .before .before .before .before .before .before .before .before .before .before .before .before .before .before .before .before .before .before .args .start + c .before .before .before .before .before .before .before .before .before .before .before .before .before .before .before .before .before .before .before .before .before .before .before .before .loop .at; size = c .before .before .before .before .before .before .before .before .before .before .before .before .before .before .before .before .before .before .before .before .before .before .token-end .result - c .before .before .before .before .before .before .before .before .before .before .before .before .before .before .before .before .before .before .before .before .before .before .before .before .loop .at })) (λ n. c .before .before .before .before .before .before .before .before .group-closing .ensures ∙ ap (λ (k : Timed). closing (k .count) (countIn (c .before .before .before .before .before .before .before .before .before .before .before .before .before .before .before .before .before .before .before .before .before .before .before .before .loop .st .groups .count))) (c .before .before .before .before .before .before .before .before .before .before .before .before .group-timed .ensures) ∙ closing-noted (c .before .before .before .before .before .before .before .before .before .before .before .before .before .before .before .before .before .before .before .before .before .before .before .before .loop .st .groups) (c .before .before .before .before .before .before .before .before .before .before .before .before .before .before .before .before .before .before .before .before .before .before .before .before .loop .st .counts) (c .before .before .before .before .before .before .before .before .before .before .before .before .before .before .before .before .before .before .before .before .before .before .before .before .loop .notes) n)) in
+    let words = found-here (c .before .before .before .before .before .before .before .before .before .before .before .before .before .before .before .before .before .before .before) (groupFound (s .groups) (s .counts) (closingOf (c .before .before .before .before .before .before .before .before .group-closing .result))) (c .before .before .before .before .before .before .before .group-found .ensures) ∙ ap (map diagnosticWords) (found-noted (s .groups) (s .counts) (itemIn (spanOf (c .before .before .before .before .before .before .before .before .before .before .before .before .before .before .before .before .before .before .before .before .before .before .before .before .loop .at) (c .before .before .before .before .before .before .before .before .before .before .before .before .before .before .before .before .before .before .before .before .before .before .token-end .result) (c .before .before .before .before .before .before .before .before .before .before .before .before .before .before .before .before .before .before .before .before .before .before .before .before .before .before .before .before .before .before .before .args .start))) (λ n. c .before .before .before .before .before .before .before .before .group-closing .ensures ∙ ap (λ (k : Timed). closing (k .count) (countIn (c .before .before .before .before .before .before .before .before .before .before .before .before .before .before .before .before .before .before .before .before .before .before .before .before .loop .st .groups .count))) (c .before .before .before .before .before .before .before .before .before .before .before .before .group-timed .ensures) ∙ closing-noted (c .before .before .before .before .before .before .before .before .before .before .before .before .before .before .before .before .before .before .before .before .before .before .before .before .loop .st .groups) (c .before .before .before .before .before .before .before .before .before .before .before .before .before .before .before .before .before .before .before .before .before .before .before .before .loop .st .counts) (c .before .before .before .before .before .before .before .before .before .before .before .before .before .before .before .before .before .before .before .before .before .before .before .before .loop .notes) n)) in
     go-on (c .before .before .before .before .before .before .before .before .before .before .before .before .before .before .before .before .before .before .before) (c .before .before .before .before .before .before .before .before .before .before .before .before .before .before .before .before .before .token8 .given .1 ∙ ap (λ (w : Marking). t.Marking w) (c .before .before .before .before .before .before .before .before .before .before .before .before .before .before .enum-told15 .given .1)) (joining (c .before .before .before .before .before .before .before .before .before .before .before .before .before .before .before .before .before .before .before)) refl (sym (c .before .before .before .before .before .before .before .before .before .before .check-group .ensures) ∙ c .before .before .before .before .before .before .before .before .before .if7 .left) words (r .ensures .0) (r .ensures .1) refl
     (λ i. withDiagnostics (r .result) (withGroups (c .paren-closed .ensures i) s)) refl refl (c .before .before .close-paren .ensures) refl refl refl refl (r .kept .0)
 

@@ -3,7 +3,7 @@ use native.Mathlib.Omega.{arith}
 use mathlib.Core.Bool.{true, false, cond, Bool}
 use lib.Dec.{ltb, eqb}
 use borrow.Author.Needs.{needs}
-use Rattle.values.specs.declared.pae.Counts.{Counts}
+use Rattle.limits.specs.declared.Counts.{Counts}
 use Rattle.steps.specs.State.{repeatedCount}
 use Rattle.reading.proofs.step.bar_repeat.Statement.{statement}
 use Rattle.reading.proofs.step.bar_repeat.Tie as tie

@@ -9,7 +9,7 @@ use mir.Val.{SFits, Fits}
 use mir.Syntax.{w32}
 use mir.Facts.{toZ-ofZ}
 use borrow.Author.Tests.{le-ltb}
-use Rattle.records.specs.Cells.{natural}
+use Rattle.rules.specs.Stored.{natural}
 use Rattle.records.proofs.cells.natural.Statement.{statement}
 use Rattle.records.proofs.cells.natural.Tie as tie
 

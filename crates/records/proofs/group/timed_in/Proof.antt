@@ -1,5 +1,5 @@
 use Rattle.records.proofs.GroupLaws.{timed-none, timed-more, timed-below, last-none, last-more}
-use Rattle.records.specs.Groups.{timedCount, lastTimed}
+use Rattle.records.specs.Groups.{timedCount, lastNonGrace}
 use mathlib.Core.Path.{_≡_, sym}
 use native.Mathlib.Omega.{arith}
 use Prim.Native.Nat.{_≤_, _-_}
@@ -8,7 +8,7 @@ use Rattle.records.proofs.group.timed_in.Statement.{statement}
 use Rattle.records.proofs.group.timed_in.Tie as tie
 
 abbrev Inv-loop : tie.InvT-loop
-Inv-loop part count seen₀ last₀ k₀ seen last k = (k ≤ count) × (seen ≡ timedCount part k) × (last ≡ lastTimed part k)
+Inv-loop part count seen₀ last₀ k₀ seen last k = (k ≤ count) × (seen ≡ timedCount part k) × (last ≡ lastNonGrace part k)
 
 abbrev μ-loop : tie.MeasureT-loop
 μ-loop part count seen₀ last₀ k₀ seen last k = count - k

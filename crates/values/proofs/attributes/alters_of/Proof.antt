@@ -1,15 +1,17 @@
 use Prim.Native.Nat.{_-_, _≤_}
 use native.Mathlib.Omega.{arith}
 use mathlib.Core.Path.{_≡_, _∙_}
+use mathlib.Core.Option.{none}
 use borrow.Author.Needs.{needs}
 use lib.ListN.{length, drop, drop-of-length-le}
 use Rattle.rules.specs.Values.{altersFrom}
+use Rattle.values.specs.Attributes.{signOption}
 use Rattle.text.proofs.PartLaws.{next-element}
 use Rattle.values.proofs.attributes.alters_of.Statement.{statement}
 use Rattle.values.proofs.attributes.alters_of.Tie as tie
 
 abbrev Inv-loop : tie.InvT-loop
-Inv-loop value alters₀ sign₀ i₀ alters sign i = (i ≤ length value) × (altersFrom alters₀ 0 value ≡ altersFrom alters sign (drop i value))
+Inv-loop value alters₀ sign₀ i₀ alters sign i = (i ≤ length value) × (altersFrom alters₀ none value ≡ altersFrom alters (signOption sign) (drop i value))
 
 abbrev μ-loop : tie.MeasureT-loop
 μ-loop value alters₀ sign₀ i₀ alters sign i = length value - i

@@ -1,6 +1,7 @@
 use native.Mathlib.Omega.{arith}
 use mathlib.Core.Path.{_≡_, sym, _∙_}
 use mathlib.Core.Bool.{false}
+use mathlib.Core.Option.{none}
 use borrow.Author.Needs.{needs}
 use lib.ListN.{length}
 use mir.Syntax.{w8}
@@ -11,7 +12,7 @@ use Rattle.values.proofs.attributes.key_of.Statement.{statement}
 use Rattle.values.proofs.attributes.key_of.Tie as tie
 
 -- past the first test the value names letters
-lettered : (c : tie.Else1) → length (lettersFrom 0 (c .before .before .before .before .before .args .value .now)) ≡ 0 → ⊥
+lettered : (c : tie.Else1) → length (lettersFrom none (c .before .before .before .before .before .args .value .now)) ≡ 0 → ⊥
 lettered c e = c .if1 .left (c .before .letter-count .ensures ∙ e)
 
 -- past the second they are no sharps

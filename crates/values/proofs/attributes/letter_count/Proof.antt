@@ -2,15 +2,17 @@ use Prim.Native.Nat.{_+_, _-_, _≤_}
 use native.Mathlib.Omega.{arith}
 use mathlib.Core.Path.{_≡_, sym, ap, _∙_}
 use mathlib.Core.Logic.{⊎-elim}
+use mathlib.Core.Option.{none}
 use borrow.Author.Needs.{needs}
 use lib.ListN.{length, drop, drop-of-length-le}
 use Rattle.rules.specs.Values.{lettersFrom}
+use Rattle.values.specs.Attributes.{signOption}
 use Rattle.values.proofs.attributes.KeyLaws.{letters-named, letters-other}
 use Rattle.values.proofs.attributes.letter_count.Statement.{statement}
 use Rattle.values.proofs.attributes.letter_count.Tie as tie
 
 abbrev Inv-loop : tie.InvT-loop
-Inv-loop value sign₀ n₀ i₀ sign n i = (i ≤ length value) × (n ≤ i) × (length (lettersFrom 0 value) ≡ n + length (lettersFrom sign (drop i value)))
+Inv-loop value sign₀ n₀ i₀ sign n i = (i ≤ length value) × (n ≤ i) × (length (lettersFrom none value) ≡ n + length (lettersFrom (signOption sign) (drop i value)))
 
 abbrev μ-loop : tie.MeasureT-loop
 μ-loop value sign₀ n₀ i₀ sign n i = length value - i
@@ -21,8 +23,8 @@ loop-again c =
     let l = c .before .before .before .before .before .loop in
     rw (c .sign-after .ensures)
     (⊎-elim
-    (λ w. omega (arith, w .1, ap length (letters-named xs (l .sign) (l .i) (omega arith) (sym (c .before .before .is-named .ensures) ∙ w .0 .taken))))
-    (λ w. omega (arith, w .1, ap length (letters-other xs (l .sign) (l .i) (omega arith) (sym (c .before .before .is-named .ensures) ∙ w .0 .left))))
+    (λ w. omega (arith, w .1, ap length (letters-named xs (signOption (l .sign)) (l .i) (omega arith) (sym (c .before .before .is-named .ensures) ∙ w .0 .taken))))
+    (λ w. omega (arith, w .1, ap length (letters-other xs (signOption (l .sign)) (l .i) (omega arith) (sym (c .before .before .is-named .ensures) ∙ w .0 .left))))
     (c .before .if1 .came))
 
 returns : tie.Need-returns Inv-loop μ-loop

@@ -6,4 +6,4 @@ use Rattle.values.proofs.rhythm.raised_octave.Statement.{statement}
 use Rattle.values.proofs.rhythm.raised_octave.Tie as tie
 
 pub raised-octave-spec : {M : Type 1} → statement M
-raised-octave-spec = tie.close (tie.spec (λ c. search needs) (λ c. search needs) (λ c. simp (le-leb (3 + c .before .args .size) 9 (omega arith))) (λ c. simp (lt-leb (3 + c .before .args .size) 9 (omega arith))))
+raised-octave-spec = tie.close (tie.spec (λ c. search needs) (λ c. search needs) (λ c. search needs) (λ c. simp (le-leb (3 + c .before .args .size) 9 (omega arith))) (λ c. simp (lt-leb (3 + c .before .args .size) 9 (omega arith))))

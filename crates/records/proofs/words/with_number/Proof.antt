@@ -2,8 +2,8 @@ use mir.Syntax.{w32}
 use mir.Facts.{toZ-pos}
 use native.Mathlib.Omega.{arith}
 use borrow.Author.Needs.{needs}
-use Rattle.records.proofs.note.with_number.Statement.{statement}
-use Rattle.records.proofs.note.with_number.Tie as tie
+use Rattle.records.proofs.words.with_number.Statement.{statement}
+use Rattle.records.proofs.words.with_number.Tie as tie
 
 pub with-number-spec : {M : Type 1} → statement M
 with-number-spec = tie.close (tie.spec

@@ -1,6 +1,6 @@
 // The reading state, with the limits and the orders of sharps and flats.
 ghost use mathlib.Core.Path.{_≡_};
-ghost use Rattle.values.specs.Pae.{freshPae};
+ghost use Rattle.limits.specs.Pae.{freshPae};
 
 // What the open bar has, in document 01's words, 0 where it has none; and the alterations of the key last taken.
 pub struct Attributes {
@@ -76,6 +76,13 @@ impl Pae {
     pub const MAX_PITCHES: usize = 8;
 
     pub const MAX_MARKS: usize = 8;
+
+    pub const MAX_DOTS: usize = 3;
+
+    // of `;` and in a meter
+    pub const MAX_COUNT: u16 = 255;
+
+    pub const MAX_OCTAVE: usize = 9;
 
     // no accidental waits
     pub const NO_ACCIDENTAL: i8 = 3;

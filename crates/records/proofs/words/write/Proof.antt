@@ -9,8 +9,8 @@ use mir.Facts.{toZ-ofZ}
 use Rattle.records.specs.Cells.{written}
 use Rattle.records.proofs.Runs.{paste-more}
 use borrow.Author.Needs.{needs}
-use Rattle.records.proofs.cells.write.Statement.{statement}
-use Rattle.records.proofs.cells.write.Tie as tie
+use Rattle.records.proofs.words.write.Statement.{statement}
+use Rattle.records.proofs.words.write.Tie as tie
 
 abbrev Inv-loop : tie.InvT-loop
 Inv-loop cells₀ at words k₀ cells k = (k ≤ length words) × (length cells ≡ length cells₀) × (cells ≡ paste cells₀ at words k)

@@ -2,8 +2,8 @@
 use mathlib.Core.Bool.{false}
 use lib.IntN.{pos}
 use lib.ListN.{replicate}
-use Rattle.values.specs.declared.pae.Start.{Start}
-use Rattle.values.specs.declared.pae.Pae.{Pae}
+use Rattle.limits.specs.declared.Start.{Start}
+use Rattle.limits.specs.declared.Pae.{Pae}
 
 -- nothing is noted
 abbrev pub noStart : Start

@@ -12,8 +12,8 @@ use Rattle.rules.specs.Words.{zeros}
 use Rattle.records.specs.Cells.{recordAt}
 use Rattle.records.proofs.Runs.{copy-more}
 use borrow.Author.Needs.{needs}
-use Rattle.records.proofs.cells.load.Statement.{statement}
-use Rattle.records.proofs.cells.load.Tie as tie
+use Rattle.records.proofs.words.load.Statement.{statement}
+use Rattle.records.proofs.words.load.Tie as tie
 
 abbrev Inv-loop : tie.InvT-loop
 Inv-loop cells number start words₀ k₀ words k = (k ≤ noteSize) × (words ≡ take k (drop start cells) ++ drop k words₀)

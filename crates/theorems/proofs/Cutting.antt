@@ -1,0 +1,279 @@
+-- Tokens as they are cut from the data: places rise, and the text of a sign says what its token holds. Assumes nothing.
+use Prim.Native.Nat.{ℕ, zero, suc, _+_, _-_, _<_, _≤_}
+use Prim.Native.Char.{code}
+use mathlib.Core.Path.{_≡_, refl, sym, ap, _∙_, subst}
+use mathlib.Core.Bool.{Bool, true, false, cond, _&&_}
+use mathlib.Core.Logic.{_⊎_, inl, inr, _≢_}
+use mathlib.Core.Option.{none, some}
+use mathlib.Core.List.{List, [], _∷_, _++_}
+use native.Mathlib.Omega.{arith}
+use mir.Facts.{no-eqb, leb-yes, eqb-no}
+use lib.Dec.{eqb, leb, eqb→eq}
+use lib.ListN.{length, take, drop}
+use lib.Seq.{drop-drop}
+use Rattle.rules.specs.Text.{bytes, among, isBlank, isDigit, isNoteLetter, runLength, begins}
+use Rattle.rules.specs.Cut.{tokenSize}
+use Rattle.rules.specs.Values.{sharpened, flattened}
+use Rattle.rules.specs.Tokens.{colons, grace, graceGroup, figureMark, figureRepeat, barRepeat, itemAt, itemsAfter, latestPlace, Ordered, Item, Token, tokenOf, accidentalIn, letterIn, graceIn, graceGroupIn, isBarline, isChord, isRest, figureIn}
+use Rattle.rules.specs.Records.{given}
+use Rattle.rules.specs.Fields.{dataOf}
+use Rattle.rules.specs.Reading.{tokensOf}
+use Rattle.rules.specs.LookBack.{textOf, letterOf, signOf, graceOf, groupOf, isBar, isCaret, isDash}
+use Rattle.rules.specs.Agreement.{All, Some, isRepeat}
+use Rattle.theorems.proofs.Lists.{is-false, cond-ind}
+
+-- an `f` or `i`
+abbrev pub repeatsIn : Token → Bool
+repeatsIn t = given (figureIn t) false (λ f. elim f [ figureMark ↦ false | figureRepeat ↦ true | barRepeat ↦ true ])
+
+-- what a token is, as its text says it
+pub record Says (t : Token) (text : List ℕ) : Type 0 where
+  pub letter : letterIn t ≡ letterOf text
+  pub sign : accidentalIn t ≡ signOf text
+  pub grace : graceIn t ≡ graceOf text
+  pub group : graceGroupIn t ≡ groupOf text
+  pub bar : isBarline t ≡ isBar text
+  pub caret : isChord t ≡ isCaret text
+  pub dash : isRest t ≡ isDash text
+  pub copy : repeatsIn t ≡ isRepeat text
+
+-- places rise from token to token, and each is what its text says
+abbrev pub Cut : List ℕ → List Item → Type 0
+Cut line [] = Unit {0}
+Cut line (x ∷ before) = (latestPlace before < x .place) × Cut line before × Says (x .token) (textOf line x)
+
+pub ordered : (line : List ℕ) (e : List Item) → Cut line e → Ordered e
+ordered line [] h = tt
+ordered line (x ∷ e) h = (h .0, ordered line e (h .1))
+
+pub cut-at : (line : List ℕ) (later : List Item) (x : Item) (e : List Item) → Cut line (later ++ x ∷ e) → Says (x .token) (textOf line x)
+cut-at line [] x e h = h .2
+cut-at line (y ∷ later) x e h = cut-at line later x e (h .1)
+
+-- ---- a token has a byte or more
+
+some-size : (b : ℕ) (bs : List ℕ) → 0 < tokenSize (b ∷ bs)
+unfolding tokenSize
+some-size b bs =
+    let P : ℕ → Type 0 = λ n. 0 < n in
+    cond-ind P (among (bytes "',xb") b) (omega arith)
+    (cond-ind P (isDigit b) (omega arith)
+    (cond-ind P (among (bytes ";=") b) (omega arith)
+    (cond-ind P (eqb b (code "%")) (omega arith)
+    (cond-ind P (eqb b (code "$")) (omega arith)
+    (cond-ind P (eqb b (code "@")) (omega arith)
+    (cond-ind P (eqb b (code ":")) (cond-ind P (begins (bytes "://:") (b ∷ bs)) (omega arith) (cond-ind P (begins (bytes "://") (b ∷ bs)) (omega arith) (omega arith)))
+    (cond-ind P (eqb b (code "/")) (cond-ind P (begins (bytes "//:") (b ∷ bs)) (omega arith) (cond-ind P (begins (bytes "//") (b ∷ bs)) (omega arith) (omega arith)))
+    (cond-ind P (eqb b (code "q")) (cond-ind P (begins (bytes "qq") (b ∷ bs)) (omega arith) (omega arith))
+    (omega arith)))))))))
+
+-- ---- the tokens whose text has more than one byte
+
+-- the text of a token that is b and what follows
+abbrev tail : ℕ → List ℕ → List ℕ
+tail b bs = take (tokenSize (b ∷ bs) - 1) bs
+
+-- longer than one byte
+long : (n : ℕ) → eqb (1 + suc n) 1 ≡ false
+long n = is-false (eqb (1 + suc n) 1) (no-eqb other)
+  where
+    other : 1 + suc n ≡ 1 → ⊥
+    other e = omega arith
+
+sharp-is : (bs : List ℕ) → accidentalIn (tokenOf (code "x") (tail (code "x") bs)) ≡ signOf (code "x" ∷ tail (code "x") bs)
+unfolding tokenSize tokenOf
+sharp-is [] = refl
+sharp-is (c ∷ bs) = go (eqb c (code "x")) refl
+  where
+    run : ℕ
+    run = runLength (λ b. eqb b (code "x")) bs
+
+    Says : ℕ → Type 0
+    Says n = some (sharpened (1 + length (take n (c ∷ bs)))) ≡ signOf (code "x" ∷ take n (c ∷ bs))
+
+    go : (t : Bool) → eqb c (code "x") ≡ t → Says (1 + cond t (1 + run) 0 - 1)
+    go true e = let q : suc run ≡ 1 + (1 + run) - 1 = omega arith in subst Says q (rw (long, e))
+    go false e = refl
+
+flat-is : (bs : List ℕ) → accidentalIn (tokenOf (code "b") (tail (code "b") bs)) ≡ signOf (code "b" ∷ tail (code "b") bs)
+unfolding tokenSize tokenOf
+flat-is [] = refl
+flat-is (c ∷ bs) = go (eqb c (code "b")) refl
+  where
+    run : ℕ
+    run = runLength (λ b. eqb b (code "b")) bs
+
+    Says : ℕ → Type 0
+    Says n = some (flattened (1 + length (take n (c ∷ bs)))) ≡ signOf (code "b" ∷ take n (c ∷ bs))
+
+    go : (t : Bool) → eqb c (code "b") ≡ t → Says (1 + cond t (1 + run) 0 - 1)
+    go true e = let q : suc run ≡ 1 + (1 + run) - 1 = omega arith in subst Says q (rw (long, e))
+    go false e = refl
+
+-- `q`, `qq`
+grace-is : (bs : List ℕ) → Says (tokenOf (code "q") (tail (code "q") bs)) (code "q" ∷ tail (code "q") bs)
+unfolding tokenSize tokenOf
+grace-is [] = record { letter = refl; sign = refl; grace = refl; group = refl; bar = refl; caret = refl; dash = refl; copy = refl }
+grace-is (c ∷ bs) = go (eqb c (code "q")) refl
+  where
+    Of : ℕ → Type 0
+    Of n = Says (cond (eqb (1 + length (take (n - 1) (c ∷ bs))) 1) (grace false) (graceGroup true)) (code "q" ∷ take (n - 1) (c ∷ bs))
+
+    go : (t : Bool) → eqb c (code "q") ≡ t → Of (cond (t && true) 2 1)
+    go true e = record { letter = refl; sign = refl; grace = rw e; group = rw e; bar = refl; caret = refl; dash = refl; copy = refl }
+    go false e = record { letter = refl; sign = refl; grace = refl; group = refl; bar = refl; caret = refl; dash = refl; copy = refl }
+
+-- `:`, `://`, `://:`
+colon-is : (bs : List ℕ) → Says (tokenOf (code ":") (tail (code ":") bs)) (code ":" ∷ tail (code ":") bs)
+unfolding tokenSize tokenOf
+colon-is [] = record { letter = refl; sign = refl; grace = refl; group = refl; bar = refl; caret = refl; dash = refl; copy = refl }
+colon-is (c ∷ bs) = first (eqb c (code "/")) refl
+  where
+    Of : List ℕ → ℕ → Type 0
+    Of cs n = Says (colons (1 + length (take (n - 1) cs))) (code ":" ∷ take (n - 1) cs)
+
+    third : (bs : List ℕ) → Of (code "/" ∷ code "/" ∷ bs) (cond (begins (bytes ":") bs) 4 3)
+    third [] = record { letter = refl; sign = refl; grace = refl; group = refl; bar = refl; caret = refl; dash = refl; copy = refl }
+    third (e ∷ bs) = go (eqb e (code ":"))
+      where
+        go : (t : Bool) → Of (code "/" ∷ code "/" ∷ e ∷ bs) (cond (t && true) 4 3)
+        go true = record { letter = refl; sign = refl; grace = refl; group = refl; bar = refl; caret = refl; dash = refl; copy = refl }
+        go false = record { letter = refl; sign = refl; grace = refl; group = refl; bar = refl; caret = refl; dash = refl; copy = refl }
+
+    second : (bs : List ℕ) → Of (code "/" ∷ bs) (cond (begins (bytes "/:") bs) 4 (cond (begins (bytes "/") bs) 3 1))
+    second [] = record { letter = refl; sign = refl; grace = refl; group = refl; bar = refl; caret = refl; dash = refl; copy = refl }
+    second (d ∷ bs) = go (eqb d (code "/")) refl
+      where
+        go : (t : Bool) → eqb d (code "/") ≡ t → Of (code "/" ∷ d ∷ bs) (cond (t && begins (bytes ":") bs) 4 (cond (t && true) 3 1))
+        go true e = subst (λ x. Of (code "/" ∷ x ∷ bs) (cond (begins (bytes ":") bs) 4 3)) (sym (eqb→eq d (code "/") (rw e tt))) (third bs)
+        go false e = record { letter = refl; sign = refl; grace = refl; group = refl; bar = refl; caret = refl; dash = refl; copy = refl }
+
+    first : (t : Bool) → eqb c (code "/") ≡ t → Of (c ∷ bs) (cond (t && begins (bytes "/:") bs) 4 (cond (t && begins (bytes "/") bs) 3 1))
+    first true e = subst (λ x. Of (x ∷ bs) (cond (begins (bytes "/:") bs) 4 (cond (begins (bytes "/") bs) 3 1))) (sym (eqb→eq c (code "/") (rw e tt))) (second bs)
+    first false e = record { letter = refl; sign = refl; grace = refl; group = refl; bar = refl; caret = refl; dash = refl; copy = refl }
+
+-- `/`, `//`, `//:`
+slash-is : (bs : List ℕ) → Says (tokenOf (code "/") (tail (code "/") bs)) (code "/" ∷ tail (code "/") bs)
+unfolding tokenOf
+slash-is bs =
+    let text : List ℕ = code "/" ∷ tail (code "/") bs in
+    let size : ℕ = 1 + length (tail (code "/") bs) in
+    cond-ind (λ t. Says t text) (eqb size 1) record { letter = refl; sign = refl; grace = refl; group = refl; bar = refl; caret = refl; dash = refl; copy = refl } (cond-ind (λ t. Says t text) (eqb size 2) record { letter = refl; sign = refl; grace = refl; group = refl; bar = refl; caret = refl; dash = refl; copy = refl } record { letter = refl; sign = refl; grace = refl; group = refl; bar = refl; caret = refl; dash = refl; copy = refl })
+
+-- ---- every token
+
+-- the first bytes that the look-back knows
+abbrev known : List ℕ
+known = bytes "xbn^-/:gqrfiCDEFGAB"
+
+-- a byte is one of these, or none
+one-of : (b : ℕ) (ks : List ℕ) → Some (λ n. n ≡ b) ks ⊎ All (λ n. eqb b n ≡ false) ks
+one-of b [] = inr tt
+one-of b (n ∷ ks) = go (eqb b n) refl (one-of b ks)
+  where
+    go : (t : Bool) → eqb b n ≡ t → Some (λ n. n ≡ b) ks ⊎ All (λ n. eqb b n ≡ false) ks → Some (λ n. n ≡ b) (n ∷ ks) ⊎ All (λ n. eqb b n ≡ false) (n ∷ ks)
+    go true e r = inl (inl (sym (eqb→eq b n (rw e tt))))
+    go false e (inl r) = inl (inr r)
+    go false e (inr r) = inr (e, r)
+
+found : (P : ℕ → Type 0) (b : ℕ) (ks : List ℕ) → All P ks → Some (λ n. n ≡ b) ks → P b
+found P b [] h f = absurd f
+found P b (n ∷ ks) h (inl e) = subst P e (h .0)
+found P b (n ∷ ks) h (inr f) = found P b ks (h .1) f
+
+no-letter : (b : ℕ) → All (λ n. eqb b n ≡ false) (bytes "CDEFGAB") → isNoteLetter b ≡ false
+no-letter b n = go (leb (code "A") b) (leb b (code "G")) refl refl
+  where
+    apart : (k : ℕ) → eqb b k ≡ false → b ≢ k
+    apart k e = eqb-no (rw e tt)
+
+    go : (p q : Bool) → leb (code "A") b ≡ p → leb b (code "G") ≡ q → p && q ≡ false
+    go false q ep eq = refl
+    go true false ep eq = refl
+    go true true ep eq =
+        let low : 65 ≤ b = leb-yes (rw ep tt) in
+        let high : b ≤ 71 = leb-yes (rw eq tt) in
+        let past : 68 ≤ b = omega (arith, low, apart 65 (n .1 .1 .1 .1 .1 .0), apart 66 (n .1 .1 .1 .1 .1 .1 .0), apart 67 (n .0)) in
+        let z : ⊥ = omega (arith, past, high, apart 68 (n .1 .0), apart 69 (n .1 .1 .0), apart 70 (n .1 .1 .1 .0), apart 71 (n .1 .1 .1 .1 .0)) in absurd z
+
+-- a token that the look-back passes over
+record Quiet (t : Token) : Type 0 where
+  letter : letterIn t ≡ none
+  sign : accidentalIn t ≡ none
+  grace : graceIn t ≡ none
+  group : graceGroupIn t ≡ none
+  bar : isBarline t ≡ false
+  caret : isChord t ≡ false
+  dash : isRest t ≡ false
+  copy : repeatsIn t ≡ false
+
+-- any other byte
+quiet-token : (b : ℕ) (cs : List ℕ) → All (λ n. eqb b n ≡ false) known → Quiet (tokenOf b cs)
+unfolding tokenOf
+quiet-token b cs n = rw (n .0, n .1 .0, n .1 .1 .0, n .1 .1 .1 .0, n .1 .1 .1 .1 .0, n .1 .1 .1 .1 .1 .0, n .1 .1 .1 .1 .1 .1 .0, n .1 .1 .1 .1 .1 .1 .1 .0, n .1 .1 .1 .1 .1 .1 .1 .1 .0, n .1 .1 .1 .1 .1 .1 .1 .1 .1 .0, n .1 .1 .1 .1 .1 .1 .1 .1 .1 .1 .0, n .1 .1 .1 .1 .1 .1 .1 .1 .1 .1 .1 .0, no-letter b (n .1 .1 .1 .1 .1 .1 .1 .1 .1 .1 .1 .1))
+    (cond-ind Quiet (eqb b (code "%")) record { letter = refl; sign = refl; grace = refl; group = refl; bar = refl; caret = refl; dash = refl; copy = refl }
+    (cond-ind Quiet (eqb b (code "$")) record { letter = refl; sign = refl; grace = refl; group = refl; bar = refl; caret = refl; dash = refl; copy = refl }
+    (cond-ind Quiet (eqb b (code "@")) record { letter = refl; sign = refl; grace = refl; group = refl; bar = refl; caret = refl; dash = refl; copy = refl }
+    (cond-ind Quiet (eqb b (code "'")) record { letter = refl; sign = refl; grace = refl; group = refl; bar = refl; caret = refl; dash = refl; copy = refl }
+    (cond-ind Quiet (eqb b (code ",")) record { letter = refl; sign = refl; grace = refl; group = refl; bar = refl; caret = refl; dash = refl; copy = refl }
+    (cond-ind Quiet (isDigit b) record { letter = refl; sign = refl; grace = refl; group = refl; bar = refl; caret = refl; dash = refl; copy = refl }
+    (cond-ind Quiet (eqb b (code "!")) record { letter = refl; sign = refl; grace = refl; group = refl; bar = refl; caret = refl; dash = refl; copy = refl }
+    (cond-ind Quiet (eqb b (code "{")) record { letter = refl; sign = refl; grace = refl; group = refl; bar = refl; caret = refl; dash = refl; copy = refl }
+    (cond-ind Quiet (eqb b (code "}")) record { letter = refl; sign = refl; grace = refl; group = refl; bar = refl; caret = refl; dash = refl; copy = refl }
+    (cond-ind Quiet (eqb b (code "(")) record { letter = refl; sign = refl; grace = refl; group = refl; bar = refl; caret = refl; dash = refl; copy = refl }
+    (cond-ind Quiet (eqb b (code ";")) record { letter = refl; sign = refl; grace = refl; group = refl; bar = refl; caret = refl; dash = refl; copy = refl }
+    (cond-ind Quiet (eqb b (code ")")) record { letter = refl; sign = refl; grace = refl; group = refl; bar = refl; caret = refl; dash = refl; copy = refl }
+    (cond-ind Quiet (eqb b (code "+")) record { letter = refl; sign = refl; grace = refl; group = refl; bar = refl; caret = refl; dash = refl; copy = refl }
+    (cond-ind Quiet (eqb b (code "t")) record { letter = refl; sign = refl; grace = refl; group = refl; bar = refl; caret = refl; dash = refl; copy = refl }
+    (cond-ind Quiet (eqb b (code "=")) record { letter = refl; sign = refl; grace = refl; group = refl; bar = refl; caret = refl; dash = refl; copy = refl }
+    (cond-ind Quiet (isBlank b) record { letter = refl; sign = refl; grace = refl; group = refl; bar = refl; caret = refl; dash = refl; copy = refl }
+    record { letter = refl; sign = refl; grace = refl; group = refl; bar = refl; caret = refl; dash = refl; copy = refl }))))))))))))))))
+
+other-is : (b : ℕ) (cs : List ℕ) → All (λ n. eqb b n ≡ false) known → Says (tokenOf b cs) (b ∷ cs)
+other-is b cs n =
+    let q : Quiet (tokenOf b cs) = quiet-token b cs n in
+    record {
+      letter = q .letter ∙ rw (n .1 .1 .1 .1 .1 .1 .1 .1 .1 .1 .1 .1 .0, n .1 .1 .1 .1 .1 .1 .1 .1 .1 .1 .1 .1 .1 .0, n .1 .1 .1 .1 .1 .1 .1 .1 .1 .1 .1 .1 .1 .1 .0, n .1 .1 .1 .1 .1 .1 .1 .1 .1 .1 .1 .1 .1 .1 .1 .0, n .1 .1 .1 .1 .1 .1 .1 .1 .1 .1 .1 .1 .1 .1 .1 .1 .0, n .1 .1 .1 .1 .1 .1 .1 .1 .1 .1 .1 .1 .1 .1 .1 .1 .1 .0, n .1 .1 .1 .1 .1 .1 .1 .1 .1 .1 .1 .1 .1 .1 .1 .1 .1 .1 .0);
+      sign = q .sign ∙ rw (n .0, n .1 .0, n .1 .1 .0);
+      grace = q .grace ∙ rw (n .1 .1 .1 .1 .1 .1 .1 .0, n .1 .1 .1 .1 .1 .1 .1 .1 .0);
+      group = q .group ∙ rw (n .1 .1 .1 .1 .1 .1 .1 .1 .0, n .1 .1 .1 .1 .1 .1 .1 .1 .1 .0);
+      bar = q .bar ∙ rw (n .1 .1 .1 .1 .1 .0, n .1 .1 .1 .1 .1 .1 .0);
+      caret = q .caret ∙ rw (n .1 .1 .1 .0);
+      dash = q .dash ∙ rw (n .1 .1 .1 .1 .0);
+      copy = q .copy ∙ rw (n .1 .1 .1 .1 .1 .1 .1 .1 .1 .1 .0, n .1 .1 .1 .1 .1 .1 .1 .1 .1 .1 .1 .0);
+    }
+
+says : (b : ℕ) (bs : List ℕ) → Says (tokenOf b (tail b bs)) (b ∷ tail b bs)
+unfolding tokenSize tokenOf
+says b bs = go (one-of b known)
+  where
+    go : Some (λ n. n ≡ b) known ⊎ All (λ n. eqb b n ≡ false) known → Says (tokenOf b (tail b bs)) (b ∷ tail b bs)
+    go (inl f) = found (λ c. Says (tokenOf c (tail c bs)) (c ∷ tail c bs)) b known
+        (record { letter = refl; sign = sharp-is bs; grace = refl; group = refl; bar = refl; caret = refl; dash = refl; copy = refl }, (record { letter = refl; sign = flat-is bs; grace = refl; group = refl; bar = refl; caret = refl; dash = refl; copy = refl }, (record { letter = refl; sign = refl; grace = refl; group = refl; bar = refl; caret = refl; dash = refl; copy = refl }, (record { letter = refl; sign = refl; grace = refl; group = refl; bar = refl; caret = refl; dash = refl; copy = refl }, (record { letter = refl; sign = refl; grace = refl; group = refl; bar = refl; caret = refl; dash = refl; copy = refl }, (slash-is bs, (colon-is bs, (record { letter = refl; sign = refl; grace = refl; group = refl; bar = refl; caret = refl; dash = refl; copy = refl }, (grace-is bs, (record { letter = refl; sign = refl; grace = refl; group = refl; bar = refl; caret = refl; dash = refl; copy = refl }, (record { letter = refl; sign = refl; grace = refl; group = refl; bar = refl; caret = refl; dash = refl; copy = refl }, (record { letter = refl; sign = refl; grace = refl; group = refl; bar = refl; caret = refl; dash = refl; copy = refl }, (record { letter = refl; sign = refl; grace = refl; group = refl; bar = refl; caret = refl; dash = refl; copy = refl }, (record { letter = refl; sign = refl; grace = refl; group = refl; bar = refl; caret = refl; dash = refl; copy = refl }, (record { letter = refl; sign = refl; grace = refl; group = refl; bar = refl; caret = refl; dash = refl; copy = refl }, (record { letter = refl; sign = refl; grace = refl; group = refl; bar = refl; caret = refl; dash = refl; copy = refl }, (record { letter = refl; sign = refl; grace = refl; group = refl; bar = refl; caret = refl; dash = refl; copy = refl }, (record { letter = refl; sign = refl; grace = refl; group = refl; bar = refl; caret = refl; dash = refl; copy = refl }, (record { letter = refl; sign = refl; grace = refl; group = refl; bar = refl; caret = refl; dash = refl; copy = refl }, tt))))))))))))))))))) f
+    go (inr n) = other-is b (tail b bs) n
+
+-- ---- the data's tokens
+
+-- a token's text is its first byte and what follows
+text-is : (line : List ℕ) (place offset b : ℕ) (bs : List ℕ) → b ∷ bs ≡ drop place line → b ∷ tail b bs ≡ textOf line (itemAt (place + 1) offset b bs)
+unfolding itemAt
+text-is line place offset b bs t = first (tokenSize (b ∷ bs)) (some-size b bs) ∙ λ i. take (tokenSize (b ∷ bs)) ((t ∙ ap (λ n. drop n line) q) i)
+  where
+    first : (n : ℕ) → 0 < n → b ∷ take (n - 1) bs ≡ take n (b ∷ bs)
+    first zero h = absurd (omega arith)
+    first (suc n) h = let e : suc n - 1 ≡ n = omega arith in ap (λ m. b ∷ take m bs) e
+
+    q : place ≡ place + 1 - 1
+    q = omega arith
+
+cut-tokens : (line : List ℕ) (skip place offset : ℕ) (text : List ℕ) (before : List Item) → text ≡ drop place line → latestPlace before < place + 1 → Cut line before → Cut line (itemsAfter skip (place + 1) offset text before)
+unfolding itemsAfter itemAt
+cut-tokens line skip place offset [] before t h o = o
+cut-tokens line zero place offset (b ∷ bs) before t h o =
+    cut-tokens line (tokenSize (b ∷ bs) - 1) (place + 1) (offset + 1) bs (itemAt (place + 1) offset b bs ∷ before) (ap (drop 1) t ∙ drop-drop 1 place line) (omega arith)
+    (h, o, subst (Says (tokenOf b (tail b bs))) (text-is line place offset b bs t) (says b bs))
+cut-tokens line (suc skip) place offset (b ∷ bs) before t h o = cut-tokens line skip (place + 1) (offset + 1) bs before (ap (drop 1) t ∙ drop-drop 1 place line) (omega (arith, h)) o
+
+-- the tokens of a text are cut from its data
+pub tokens-cut : (text : List ℕ) → Cut (dataOf text .bytes) (tokensOf text)
+tokens-cut text = cut-tokens (dataOf text .bytes) 0 0 (dataOf text .start) (dataOf text .bytes) [] refl (omega arith) tt
