@@ -3,8 +3,15 @@
  * It allocates nothing, keeps nothing between calls and writes only to the buffers lent to it. Link
  * libpae.a, which `rt staticlib pae` writes to target/staticlib.
  *
- * Data places count the bytes of the data from 1; in field form the data are the trimmed value of
- * the last @data: field, else they are the whole text. Lines count from 1, text offsets from 0.
+ * Texts are in UTF-8. Data places count the characters (Unicode scalar values) of the data from 1;
+ * in field form the data are the trimmed value of the last @data: field, else they are the whole
+ * text. Lines count from 1. Text offsets count bytes from 0.
+ *
+ * The character at a data place: count the bytes that begin one, all but those of the form 10xxxxxx.
+ *
+ *     size_t at = 0;
+ *     while (at < data_len && ((data[at] & 0xC0) == 0x80 || --place > 0))
+ *         at++;
  */
 #ifndef PAE_H
 #define PAE_H
@@ -130,7 +137,7 @@ enum {
     PAE_ACCEPTED = 0,
     PAE_REFUSED_TOO_LARGE = 1,         /* the text is over PAE_MAX_TEXT; place 0 */
     PAE_REFUSED_DIAGNOSTIC_CELLS = 2,  /* fewer than PAE_DIAGNOSTIC_CELLS lent; place 0 */
-    PAE_REFUSED_NOT_ASCII = 3,         /* a byte of 128 or more; place 0 */
+    PAE_REFUSED_MALFORMED_UTF8 = 3,    /* the text is no well-formed UTF-8; place 0 */
     PAE_REFUSED_BLANK = 4,             /* the text is blank; place 0 */
     PAE_REFUSED_NO_DATA = 5,           /* field form without a data field; place 0 */
     PAE_REFUSED_MEASURE_REST = 6,      /* a whole-bar rest; data place of the = */
@@ -140,7 +147,7 @@ enum {
     PAE_REFUSED_TOO_MANY_MARKS = 10,   /* over PAE_MAX_MARKS; data place of the t or ) */
     PAE_REFUSED_FIGURE_RECORDS = 11,   /* over the lent figure records; data place of the ! */
     PAE_REFUSED_BAR_RECORDS = 12,      /* over the lent bar records; data place of the barline, at
-                                          the end the data's length plus 1 */
+                                          the end the data's length in characters plus 1 */
     PAE_REFUSED_NO_NOTES = 13          /* the data hold no note and no rest; place 0 */
 };
 
@@ -160,7 +167,7 @@ enum {
     PAE_D_TUPLET_COUNT = 12,         /* [tuplet] a ; without a group or a count of 0 to 255 */
     PAE_D_UNMATCHED_PAREN = 13,      /* [token] a ) without ( */
     PAE_D_TRILL_WITHOUT_NOTE = 14,   /* [token] a t before the bar's first note */
-    PAE_D_UNSUPPORTED_TOKEN = 15,    /* [token] a token without a meaning here */
+    PAE_D_UNSUPPORTED_TOKEN = 15,    /* [token] a character without a meaning here */
     PAE_D_TIE_WITHOUT_NOTE = 16,     /* [tie] a + that follows no note of its bar */
     PAE_D_FIGURE_OVER_BARLINE = 17,  /* [repeat] a ! in a bar shorter than the figure's start */
     PAE_D_REPEAT_WITHOUT_FIGURE = 18, /* [repeat] an f without a figure */
@@ -176,7 +183,7 @@ enum {
 
 /* What the value of a diagnostic is. */
 enum {
-    PAE_VALUE_TEXT = 1,  /* the part of the text from start to end */
+    PAE_VALUE_TEXT = 1,  /* the part of the text from start to end, whole characters */
     PAE_VALUE_GROUP = 2, /* the value (), which stands nowhere; start and end are 0 */
     PAE_VALUE_NUMBER = 3 /* the number in start; end is 0 */
 };
@@ -186,8 +193,8 @@ typedef struct PaeDiagnostic {
     int32_t place_kind; /* PAE_PLACE_... */
     int32_t place;      /* from 1 */
     int32_t value_kind; /* PAE_VALUE_... */
-    int32_t start;      /* offset of the value in the text, or the number */
-    int32_t end;        /* offset behind the value */
+    int32_t start;      /* offset in bytes of the value in the text, or the number */
+    int32_t end;        /* offset in bytes behind the value */
 } PaeDiagnostic;
 
 typedef struct PaeReading {

@@ -12,8 +12,9 @@ buffer has and that the others are all 0. The prover computes that line from the
 
 The expected line comes from the oracle. The words and refusals that document 01 adds to the Rust are found from the
 oracle's answers on the text cut behind each token; those for limits 1 and 7 are written out. Of the diagnostic cells
-all are looked at for one text in eight, else the stored ones and 20 more. All short texts are among them from a count
-of 4,764 on. A text that differs is cut down to a small one that still differs.
+all are looked at for one text in eight, else the stored ones and 20 more. All short texts, and every blank and every
+edge of UTF-8 at every place, are among them from a count of 9,544 on. A text that differs is cut down to a small one
+that still differs.
 """
 import argparse
 import os
@@ -43,6 +44,21 @@ BAD_METERS = ["", "3", "/", "/4", "3/", "0/4", "4/0", "3/3", "256/4", "4/256", "
 COUNTS = ["", "0", "1", "2", "3", "4", "5", "6", "7", "8", "9", "12", "15", "16", "17", "32", "33", "64", "65", "127", "128", "129", "130", "255", "256", "300", "1000", "003", "0000255"]
 UNKNOWN = list("?zHaduewshjklmopvycX.[]|~_*&#<>\"\\`RTIVZ\x00\x01\x08\x0e\x1b\x1c\x1f\x7f")
 BLANKS = [" "] * 6 + ["  ", "\t", "\n", "\r", "\r\n", "\v", "\f"]
+
+# White_Space; what stands beside it or is taken for it; the first and last characters of each row of the standard's table; other ones
+BLANK = "\t\n\v\f\r \x85\xa0\u1680\u2000\u2001\u2002\u2003\u2004\u2005\u2006\u2007\u2008\u2009\u200a\u2028\u2029\u202f\u205f\u3000"
+BESIDE = "\x1c\x1f\x84\x86\x9f\xa1\u167f\u1681\u180e\u1fff\u200b\u2027\u202a\u202e\u2030\u205e\u2060\u2fff\u3001\ufeff"
+EDGES = "\x7f\x80\xbf\xc0\u07ff\u0800\u0fff\u1000\ucfff\ud7ff\ue000\uffff\U00010000\U0003ffff\U00040000\U000fffff\U00100000\U0010ffff"
+ACCENTED = "éüïßñç\u0301ł…\u266f\u266dあ漢\U0001d11e\U0001f3b5"
+WIDE = ACCENTED * 3 + EDGES + BESIDE + BLANK[6:] * 3
+# where a character can stand
+AROUND = ["%s", "%sC", "C%s", "C%sD", "x%sC", "8%s6C", "'%s'C", "%%%sC", "%%G-2%sC", "%%G%s2C", "%%G-%sC", "%%é%s+üC", "%%+%s+C", "$x%sFF", "@3%s/4C", "q%sqC", "/%s/C", "(CD;%s2)",
+          "@data:%sC%s", "@data:C %s", "%s@data:C", "@clef:%sG-2%s\n@data:C", "@clef:é+%s\n@data:C", "@clef:%s+x\n@data:C", "@keysig:x%sF\n@data:F", "@timesig:%s3/4%s\n@data:C",
+          "@timesig:3%s/4\n@data:C", "@t%stle:x\n@data:C", "@title:%sx%s\n@data:C", "@title:é%s\n@data:C", "x%s\n@data:C", "%s%s\n@data:C", "@x:%s@data:C", "@data%s:C", "@%sdata:C"]
+# bytes that begin a sequence, the second ones, what may follow
+FIRST = [0x80, 0xBF, 0xC0, 0xC1, 0xC2, 0xDF, 0xE0, 0xE1, 0xEC, 0xED, 0xEE, 0xEF, 0xF0, 0xF1, 0xF3, 0xF4, 0xF5, 0xF8, 0xFE, 0xFF]
+SECOND = [0x7F, 0x80, 0x8F, 0x90, 0x9F, 0xA0, 0xBF, 0xC0]
+LATER = [b"", b"\x80", b"\xbf\xbf", b"\x80\x7f", b"\x80\xc0", b"\x7f\x80", b"\xbf\x80\x80"]
 
 INCIPITS = [
     "%G-2$xFC@3/4 '4C8DE/4F+F^A/{8CDEF}(CDE)/",
@@ -218,8 +234,28 @@ def random_text(r):
     elif kind < 0.99:
         text = mutated(r, r.choice(FORMS))
     else:
-        text = "".join(r.choice(BLANKS + ["\x80", "\xff", "C"]) for _ in range(r.randrange(4)))
-    return text.encode("latin-1")
+        text = "".join(r.choice(BLANKS + list(BLANK) + ["\ufeff", "C"]) for _ in range(r.randrange(4)))
+    return spiced(r, text)
+
+
+def spiced(r, text):
+    """in UTF-8; half of them with other characters, put in or in the place of others; one in thirty with a byte changed, put in or left out, mostly malformed"""
+    if r.random() < 1 / 2:
+        for _ in range(r.choice([1, 1, 2, 3, 5])):
+            at = r.randrange(len(text) + 1)
+            text = text[:at] + r.choice(WIDE) * r.choice([1, 1, 1, 2, 3]) + text[at + r.choice([0, 0, 1]):]
+    text = text.encode()
+    if r.random() < 1 / 30:
+        high = [i for i, b in enumerate(text) if b > 127] or [len(text)]
+        at = r.choice(high)
+        text = text[:at] + r.choice([b"", bytes([r.randrange(256)]), bytes([r.choice(FIRST)])]) + text[at + r.choice([0, 1, 1]):]
+    return text
+
+
+def wide_texts():
+    """every blank and every edge at every place where a character can stand; sequences at the edges of the standard's table"""
+    said = [a.replace("%s", c) for a in (a.replace("%%", "%") for a in AROUND) for c in BLANK + BESIDE + EDGES]
+    return [t.encode() for t in said] + [b"C" + bytes([a, b]) + c for a in FIRST for b in SECOND for c in LATER] + [b"C" + bytes([a]) for a in range(256)]
 
 
 # every text of one or two of these bytes
@@ -235,39 +271,43 @@ MANY = [b"C" + b"?" * 1030]
 
 # ---- document 01: the data and its tokens
 
-BLANK = bytes([9, 10, 11, 12, 13, 32])
-FIELD = re.compile(rb"@([A-Za-z]+):(.*)", re.S)
-TOKEN = re.compile(rb"'+|,+|x+|b+|[0-9][0-9.]*|[;=][0-9]*|%[^\t-\r ]{0,3}|\$[xbnA-G\[\]]*|@[0-9/c.+]*|://:|://|//:|//|qq|.", re.S)
+FIELD = re.compile("@([A-Za-z]+):(.*)", re.S)
+TOKEN = re.compile(r"'+|,+|x+|b+|[0-9][0-9.]*|[;=][0-9]*|%%[^%s]{0,3}|\$[xbnA-G\[\]]*|@[0-9/c.+]*|://:|://|//:|//|qq|." % BLANK, re.S)
 BARLINES = ("/", "//", "//:", "://", "://:")
 
 
 def data_of(text):
-    """where the data stands in the text; None: field form, no data field"""
+    """where the data stands in the text, in characters; None: field form, no data field"""
     at, form, data = 0, False, None
-    for line in text.split(b"\n"):
+    for line in text.split("\n"):
         field = FIELD.fullmatch(line.strip(BLANK))
         if field:
             form = True
-            if field[1] == b"data":
+            if field[1] == "data":
                 value = field[2].strip(BLANK)
-                start = at + line.index(b"@data:") + 6
+                start = at + line.index("@data:") + 6
                 start += len(text[start:]) - len(text[start:].lstrip(BLANK)) if value else 0
                 data = (start, start + len(value))
         at += len(line) + 1
     return data if form else (0, len(text))
 
 
-def is_ascii(text):
-    return max(text, default=0) < 128
+def decoded(text):
+    """the characters; None: malformed"""
+    try:
+        return text.decode()
+    except UnicodeDecodeError:
+        return None
 
 
 def prefixes(text):
     """the text, its data cut behind each token"""
-    data = data_of(text)
+    text = decoded(text)
+    data = None if text is None else data_of(text)
     if data is None:
         return []
     start, end = data
-    return [text[:start + token.end()] + text[end:] for token in TOKEN.finditer(text[start:end])]
+    return [(text[:start + token.end()] + text[end:]).encode() for token in TOKEN.finditer(text[start:end])]
 
 
 # ---- what is expected
@@ -285,7 +325,7 @@ class Oracle:
         self.path, self.known = path, {}
 
     def ask(self, texts):
-        new = [t for t in dict.fromkeys(texts) if t not in self.known and is_ascii(t)]
+        new = [t for t in dict.fromkeys(texts) if t not in self.known]
         run = subprocess.run([self.path], input="".join(t.hex() + "\n" for t in new), capture_output=True, text=True, check=True)
         lines = run.stdout.split("\n")[:-1]
         assert len(lines) == len(new), "the oracle answered %d of %d texts" % (len(lines), len(new))
@@ -302,25 +342,27 @@ class Expectation:
         self.text, self.oracle = text, oracle
         self.stops = []  # place, number, what must be lent (None: nothing helps), how many records of it
         self.places = []  # of each record: the storing token's place, the letters' places
-        if not is_ascii(text):
+        self.characters = decoded(text)
+        assert (self.characters is None) == (oracle.known[text] == "err Utf8"), text
+        if self.characters is None:
             self.stops = [(0, 3, None, 0)]
-        elif not text.strip(BLANK):
+        elif not self.characters.strip(BLANK):
             self.stops = [(0, 4, None, 0)]
-        elif data_of(text) is None:
+        elif data_of(self.characters) is None:
             self.stops = [(0, 5, None, 0)]
         else:
             self.follow()
         self.needed = {what: max([n for _, _, w, n in self.stops if w == what], default=0) for what in UNIT}
 
     def follow(self):
-        start, end = data_of(self.text)
+        start, end = data_of(self.characters)
         first, last_bar, figure, mark = 0, [], [], None  # the open bar's first record, the last stored bar, the figure, the open `!`
 
         def stop(number, what=None, size=0):
             self.stops.append((place, number, what, size))
 
-        for token, cut in zip(TOKEN.finditer(self.text[start:end]), prefixes(self.text)):
-            place, name = token.start() + 1, token[0].decode()
+        for token, cut in zip(TOKEN.finditer(self.characters[start:end]), prefixes(self.text)):
+            place, name = token.start() + 1, token[0]
             notes = [n.split(",") for n in self.oracle.records(cut, "N")]
             added, opened = len(notes) - len(self.places), len(self.places) - first
             if name[0] == "=":
@@ -381,7 +423,7 @@ class Case:
         self.text = text
         self.lent = lent or lent_for(r, expectation.needed)
         self.number, place = expectation.refusal(self.lent)
-        empty = is_ascii(text) and oracle.known[text] == "err Empty"
+        empty = oracle.known[text] == "err Empty"
         assert self.number not in (0, 4, 5, 13) or (self.number in (4, 5, 13)) == empty, (text, self.number)
         self.stored = "%d,%d,0,0,0" % (self.number, place) if self.number else expectation.stored()
         self.found = [int(d.split(",")[0]) for d in oracle.records(text, "D")[:STORED]] if self.number == 0 else []
@@ -534,8 +576,11 @@ abbrev pub answer : List ℕ → ℕ → ℕ → ℕ → ℕ → ℕ → String
 answer text notes bars figure diagnostics looked = let r = read text notes bars figure diagnostics in storedShown text r ++ ";" ++ cellsShown looked r
 """
 
-# limits that need a long text or many cells: 65,536 bytes, 65,535 bytes, 131,071 notes
+# limits that need a long text or many cells: 65,536 bytes, 65,535 bytes, 131,071 notes; of malformed texts too
 LIMITS = [
+    ("stored (replicate 65536 195) 0 0 0 0 0", "1,0,0,0,0"),
+    ("stored (replicate 65535 195) 0 0 0 1023 0", "2,0,0,0,0"),
+    ("stored (replicate 65535 195) 0 0 0 1024 0", "3,0,0,0,0"),
     ("stored (replicate 65536 32) 0 0 0 1024 0", "1,0,0,0,0"),
     ("stored (replicate 65535 32) 0 0 0 1024 0", "4,0,0,0,0"),
     ('stored (bytes "C%s") 8800000 200 8800000 1024 0' % ("/!i!f" * 16), "7,81,0,0,0"),
@@ -593,7 +638,7 @@ def check(batches):
     logs = [WORK / "target" / "log" / (c + ".out") for c in crates]
     for log in logs:
         log.unlink(missing_ok=True)
-    subprocess.run(["rt", "check"], cwd=WORK, env=dict(os.environ, RT_JOBS="2"), stdout=subprocess.DEVNULL, stderr=subprocess.DEVNULL)
+    subprocess.run(["rt", "check"], cwd=WORK, env={"RT_JOBS": "2", **os.environ}, stdout=subprocess.DEVNULL, stderr=subprocess.DEVNULL)
     answers = []
     for crate, log in zip(crates, logs):
         said = log.read_text() if log.exists() else ""
@@ -651,8 +696,8 @@ def main():
     if not given.oracle:
         options.error("--oracle PATH or ORACLE is needed")
     r = random.Random(given.seed)
-    texts = short_texts()
-    texts = r.sample(texts, min(len(texts), given.count // 4))
+    texts = short_texts() + wide_texts()
+    texts = r.sample(texts, min(len(texts), given.count // 2))
     texts += [random_text(r) for _ in range(given.count - len(texts))] + MANY
     oracle = Oracle(given.oracle)
     oracle.ask(texts + [p for t in texts for p in prefixes(t)])

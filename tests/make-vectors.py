@@ -8,8 +8,9 @@ give the same bytes: crates/vectors/stdin, the list, and crates/vectors/stdout, 
 crates/vectors/README.md has the list's format.
 
 The texts: every kind of token after every other, in six surroundings; fields, keys, meters, clefs and counts; every
-diagnostic with its values; the limits that fit a line; texts written out for one rule each; random ones. A text that
-the program's buffers, or the words and refusals that document 01 adds to the Rust, would stop isn't taken.
+diagnostic with its values; the limits that fit a line; texts written out for one rule each; every blank, what is taken
+for one and characters of two to four bytes, at the places where they matter; random ones. A text that the program's
+buffers, or the words and refusals that document 01 adds to the Rust, would stop isn't taken.
 """
 import argparse
 import os
@@ -149,6 +150,31 @@ RULES = [
     "C\n%F-4D", "%F-4\nC", "@3/4\nC", "@c:C", "@c:\n", "@clef:G-2", "@clef:G-2\n%G-2C", "", " ", "\n", "\t\r\n ", "?", "/", "%G-2", "@data:?", "@data:\n", "4x'", "!f", "@data: \n ", "@Z:\n@data:/",
 ]
 
+# ---- characters
+
+BLANK_AROUND = ["%s", "%sC%sD?", "8%s6.%s{CD}x%sF%s:", "%%G%s-2C/%%F-4%sD", "%%%sC", "$x%sF F", "@data:%sC %s", "%s@title:%sx %sy%s\n%s@data:C", "@keysig:x%sF\n@data:F", "@x:%s@data:C", "%s\n@data:C\nz%s"]
+WIDE_AROUND = ["%sC", "C%sD?", "x%sF8%s6{CD}", "%%%s+%sC", "%%%s%s%sC", "%%G-2%sC", "$%sC", "@3/4%sC", "C/%s!DE!%sf", "@title:%s\n@clef:%s\n@keysig:xF%s\n@timesig:%s\n@data:%sF%s", "@t%stle:x\n@data:C%s"]
+CHARACTERS = [
+    # places behind them: notes, chords, figures, bars, groups
+    "éC^éEé^G", "é!Cé!fé/éi?", "漢C/漢D//漢E?", "(éC漢D𝄞E)t)", "{éCéDé}é)", "éCé+éCé+?", "éqqCéDérE?", "ü8.6CüDüEü'F", "é,,,,,,C", "é%é C%éD", "é$xé FéF", "é@3/é4C", "é:C:é//:D:", "éC(/é)", "(éCD;é2)", "(éCD;2)é",
+    "é;3C", "éfC", "éiC", "éC/éDéié", "Cé!/é!D", "étC", "é+C", "érC", "e\u0301C", "\u0301", "é", "é漢𝄞", "éé=\n@data:C", "éC\u00a0\u3000", "é" * 300 + "C?", "漢C" * 40 + "?", "\u00a0" * 200 + "C" + "\u3000" * 200 + "?",
+    # clefs of three characters
+    "%é+üC", "%é-üC", "%+é+C", "%++éC", "%é++C", "%漢+字C/%𝄞+𝄞D", "%éG-2C", "%Gé2C", "%G-éC", "%é", "%é+", "%éé C", "%é\u00a0+C", "%G-2éC", "%G+2éC", "C%é+üD", "%é+ü%F-4C", "%éüïC", "%" + "é" * 50 + "C", "%" + "漢" * 50 + " C",
+    # fields
+    "@tïtle:x\n@data:C", "@title:Für Elise\n@data:C", "@title:Noël\u00a0\n@data:C", "@title:\u00a0\n@data:C", "@composer:Dvořák, Antonín\n@title:六段\n@clef:G-2\n@keysig:xFC\n@timesig:3/4\n@data:'4C8DE/4F+FA/", "@clef:é\n@data:C", "@clef:é+ü\n@data:C",
+    "@clef:漢-2\n@data:C", "@clef:\u00a0F-4\u3000\n@data:C", "@clef:F\u00a0-4\n@data:C", "@keysig:é\n@data:C", "@keysig:xFé\n@data:F", "@keysig:\u00a0bB\u2003\n@data:B", "@keysig:b\u3000B\n@data:B", "@timesig:é\n@data:C", "@timesig:３/４\n@data:C",
+    "@timesig:\u00a03/4\u00a0\n@data:C", "@timesig:3\u00a0/4\n@data:C", "@timesig:é/4\n@data:C", "@data:é\n@data:C", "@data:C\n@data:é", "@data:éC\n@data:\u00a0éD\u00a0", "@datä:C", "@data:C\n@datä:D", "\ufeff@data:C", "\ufeffC", "@data\u00a0:C\n@data:D", "@data：C",
+    "für\n@data:C", "\u00a0für \u2003\n@data:C?", "\u200b\n@data:C", "\u2028\n@data:C", "@x:\u2028@data:C", "@x:\u0085@data:C", "@x:\r@data:C", "C\u2028@data:D", "@data:C\u2028@data:D", "\u2029@data:C\u2029", "@title:é\r\n@data:éC\r\n", "ß\nß\n@data:ßC\nß",
+]
+
+
+def characters():
+    yield from CHARACTERS
+    for around, wide in (BLANK_AROUND, d.BLANK[6:]), (BLANK_AROUND[:4], d.BESIDE), (WIDE_AROUND, d.ACCENTED + d.EDGES):
+        for character in wide:
+            yield from (a.replace("%%", "%").replace("%s", character) for a in around)
+
+
 # ---- the list
 
 COMPACT = re.compile(rb"[^ -\[\]-~]")
@@ -183,7 +209,7 @@ def answer(text, number, oracle):
 
 def taken(texts, oracle):
     """the texts that the program can be held to, each once, with the refusal's number"""
-    texts = [t for t in dict.fromkeys(texts) if d.is_ascii(t)]
+    texts = [t for t in dict.fromkeys(texts) if d.decoded(t) is not None]
     oracle.ask(texts + [p for t in texts for p in d.prefixes(t)])
     for text in texts:
         number, _ = d.Expectation(text, oracle).refusal(LENT)
@@ -207,7 +233,7 @@ def main():
     if not given.oracle:
         options.error("--oracle PATH or ORACLE is needed")
     r = random.Random(given.seed)
-    written = [t.encode("latin-1") for t in DIAGNOSTICS + RULES + list(values()) + list(pairs()) + LIMITS]
+    written = [t.encode() for t in DIAGNOSTICS + RULES + list(values()) + list(pairs()) + LIMITS + list(characters())]
     oracle = d.Oracle(given.oracle)
     cases = list(taken(written + [d.random_text(r) for _ in range(RANDOM)], oracle))
     stored = b"".join(escaped(text) + b"\t" + answer(text, number, oracle) + b"\n" for text, number in cases)

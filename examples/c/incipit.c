@@ -75,7 +75,7 @@ static const char *refusal_text(uint32_t number) {
     switch (number) {
     case PAE_REFUSED_TOO_LARGE: return "the text is too long";
     case PAE_REFUSED_DIAGNOSTIC_CELLS: return "too few diagnostic cells are lent";
-    case PAE_REFUSED_NOT_ASCII: return "a byte of the text isn't ASCII";
+    case PAE_REFUSED_MALFORMED_UTF8: return "the text is malformed UTF-8";
     case PAE_REFUSED_BLANK: return "the text is blank";
     case PAE_REFUSED_NO_DATA: return "the text has fields, but none is @data:";
     case PAE_REFUSED_MEASURE_REST: return "whole-bar rests (=) aren't read";

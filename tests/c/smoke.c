@@ -1,4 +1,5 @@
-/* The reader from C: the thirteen proved lines, refusals over poisoned buffers, and little lent. */
+/* The reader from C: the thirteen proved lines, characters beyond ASCII, refusals over poisoned
+ * buffers, and little lent. */
 #include "pae.h"
 
 #include <stdio.h>
@@ -157,9 +158,61 @@ static void refused_lines(void) {
     read_line("C=");
     CHECK(refused(PAE_REFUSED_MEASURE_REST, 2));
     CHECK(rest_is_clear(note_words, bar_words, note_words, PAE_DIAGNOSTIC_CELLS));
-    read_line("!C!)/D\xc3\xa9");
-    CHECK(refused(PAE_REFUSED_NOT_ASCII, 0));
-    CHECK(rest_is_clear(note_words, bar_words, note_words, PAE_DIAGNOSTIC_CELLS));
+}
+
+/* The offset of the character at a data place, as pae.h has it. */
+static size_t offset_of(const char *data, int32_t place) {
+    size_t at = 0;
+    while (at < strlen(data) && ((data[at] & 0xC0) == 0x80 || --place > 0))
+        at++;
+    return at;
+}
+
+static int cell(int index, int32_t number, int32_t place, int32_t start, int32_t end) {
+    return cells[index].number == number && cells[index].place == place &&
+           cells[index].value_kind == PAE_VALUE_TEXT && cells[index].start == start &&
+           cells[index].end == end;
+}
+
+static void characters(void) {
+    static const char mixed[] = "\xc3\xa9" "C\xc2\xa0" "D\xe6\xbc\xa2\xf0\x9d\x84\x9e" "E";
+    read_line("\xc3\xa9" "C");
+    CHECK(counts(1, 1, 1) && cell(0, PAE_D_UNSUPPORTED_TOKEN, 1, 0, 2));
+    CHECK(word(0, PAE_NOTE_PLACE) == 2 && pitch(0, PAE_PITCH_PLACE) == 2);
+    read_line("\xc2\xa0" "C");
+    CHECK(counts(1, 1, 0) && word(0, PAE_NOTE_PLACE) == 2);
+    read_line("%\xc3\xa9+\xc3\xbc" "C");
+    CHECK(counts(1, 1, 2) && word(0, PAE_NOTE_PLACE) == 5);
+    CHECK(cell(0, PAE_D_MENSURAL_CLEF, 1, 1, 6) && cell(1, PAE_D_UNSUPPORTED_CLEF, 1, 1, 6));
+    read_line("@t\xc3\xaftle:x\n@data:C");
+    CHECK(counts(1, 1, 1) && cell(0, PAE_D_UNSUPPORTED_LINE, 1, 0, 9));
+    read_line(mixed);
+    CHECK(counts(3, 1, 3) && cell(2, PAE_D_UNSUPPORTED_TOKEN, 6, 9, 13));
+    CHECK(mixed[offset_of(mixed, word(0, PAE_NOTE_PLACE))] == 'C');
+    CHECK(mixed[offset_of(mixed, word(1, PAE_NOTE_PLACE))] == 'D');
+    CHECK(mixed[offset_of(mixed, word(2, PAE_NOTE_PLACE))] == 'E');
+    CHECK(offset_of(mixed, 6) == 9 && offset_of(mixed, 8) == strlen(mixed));
+    read_lent("\xc3\xa9" "C", PAE_NOTE_WORDS, 0, 0, PAE_DIAGNOSTIC_CELLS);
+    CHECK(refused(PAE_REFUSED_BAR_RECORDS, 3));
+    CHECK(rest_is_clear(PAE_NOTE_WORDS, 0, 0, PAE_DIAGNOSTIC_CELLS));
+    read_line("\xe3\x80\x80\xc2\x85");
+    CHECK(refused(PAE_REFUSED_BLANK, 0));
+}
+
+/* A byte that only continues, a character cut off at the end and inside, an overlong form, a
+ * surrogate, a value above U+10FFFF. */
+static void malformed(void) {
+    static const char *const texts[] = {"!C!)/D\xa9", "!C!)/D\xc3", "!C!)\xe6\xbc/D",
+                                        "!C!)/D\xc0\xaf", "!C!)/D\xed\xa0\x80",
+                                        "!C!)/D\xf4\x90\x80\x80"};
+    size_t note_words = RECORDS * PAE_NOTE_WORDS, bar_words = RECORDS * PAE_BAR_WORDS, i;
+    for (i = 0; i < sizeof texts / sizeof *texts; i++) {
+        read_line(texts[i]);
+        CHECK(refused(PAE_REFUSED_MALFORMED_UTF8, 0));
+        CHECK(rest_is_clear(note_words, bar_words, note_words, PAE_DIAGNOSTIC_CELLS));
+    }
+    read_lent("\xff", 0, 0, 0, PAE_DIAGNOSTIC_CELLS - 1);
+    CHECK(refused(PAE_REFUSED_DIAGNOSTIC_CELLS, 0));
 }
 
 static void nothing_lent(void) {
@@ -193,6 +246,8 @@ int main(void) {
     chords_and_figures();
     diagnosed();
     refused_lines();
+    characters();
+    malformed();
     nothing_lent();
     parts_of_records_lent();
     puts(failures == 0 ? "smoke: all hold" : "smoke: failed");

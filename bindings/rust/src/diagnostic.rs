@@ -36,7 +36,7 @@ words_enum! {
         UnmatchedParen = 13,
         /// d14: a trill before the first note of its bar.
         TrillWithoutNote = 14,
-        /// d15: a token that has no meaning here.
+        /// d15: a token that has no meaning here; the value is its one character.
         UnsupportedToken = 15,
         /// d16: a tie that follows no note of its bar.
         TieWithoutNote = 16,
@@ -117,7 +117,7 @@ pub enum Position {
         /// Its key.
         key: String,
     },
-    /// A place in the data, from 1.
+    /// A place in the data, in characters from 1.
     Data(u32),
 }
 
@@ -176,7 +176,8 @@ pub struct Diagnostic {
     pub position: Position,
     /// The value that it is about.
     pub value: String,
-    /// The bytes of the text that are the value; none for d10 and d11.
+    /// The bytes of the text that are the value, from and to where characters begin; none for d10
+    /// and d11.
     pub span: Option<Range<usize>>,
 }
 

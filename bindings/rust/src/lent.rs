@@ -31,8 +31,8 @@ pub struct Lent<'a> {
     pub diagnostics: &'a [DiagnosticCell],
 }
 
-/// Reads `text` into lent buffers and allocates nothing. Every lent cell that isn't handed back is
-/// 0 afterwards; after a refusal all are.
+/// Reads `text`, in UTF-8, into lent buffers and allocates nothing. Every lent cell that isn't
+/// handed back is 0 afterwards; after a refusal all are.
 ///
 /// ```
 /// use urthmoli::words::{BAR_WORDS, DiagnosticCell, NOTE_WORDS, note};

@@ -18,6 +18,22 @@
 //! assert_eq!(refusal.place(), Some(2));
 //! ```
 //!
+//! Texts are in UTF-8. A place counts the characters (`char`) of the data from 1: those of the last
+//! `@data:` field's trimmed value, or of the whole text where it has no fields. The character there
+//! is `data.chars().nth(place - 1)`:
+//!
+//! ```
+//! let text = "@title:Für Elise\n@data:é8''E";
+//! let data = text.lines().rev().find_map(|line| line.trim().strip_prefix("@data:"));
+//! let data = data.map_or(text, str::trim);
+//! let place = urthmoli::read(text)?.notes[0].place;
+//! assert_eq!(place, 5);
+//! assert_eq!(data.chars().nth(place as usize - 1), Some('E'));
+//! # Ok::<(), urthmoli::Refusal>(())
+//! ```
+//!
+//! The span of a diagnostic counts bytes: `&text[span]` is its value.
+//!
 //! [`read_into`] does the same over lent buffers and allocates nothing.
 
 #![deny(missing_docs, unsafe_code)]

@@ -180,7 +180,7 @@ pub struct TupletInfo {
 /// A pitch. Displayed as `F#5` or `Bb3`.
 #[derive(Clone, Copy, Debug, PartialEq, Eq, Hash)]
 pub struct Pitch {
-    /// The place of its letter in the data, from 1.
+    /// The place of its letter in the data, in characters from 1.
     pub place: u32,
     /// The letter.
     pub step: Step,
@@ -220,7 +220,8 @@ impl fmt::Display for Pitch {
 /// A note, chord, grace note or rest.
 #[derive(Clone, Copy, Debug, PartialEq, Eq)]
 pub struct Note {
-    /// The place in the data of the token that stored it, from 1: a letter, `-`, `f` or `i`.
+    /// The place in the data of the token that stored it, in characters from 1: a letter, `-`,
+    /// `f` or `i`.
     pub place: u32,
     /// What it is.
     pub kind: NoteKind,

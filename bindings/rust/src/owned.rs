@@ -44,8 +44,9 @@ fn each<R, T>(
     records.iter().map(meaning).collect()
 }
 
-/// Reads a text: bare data, or fields one to a line. It never panics, and refuses only what the
-/// reader itself can't read, never for want of room.
+/// Reads a text in UTF-8: bare data, or fields one to a line. It never panics, and refuses only what
+/// the reader itself can't read, never for want of room. Any bytes may be given; a `&str` or
+/// `String` is never refused as [malformed](Refusal::MalformedUtf8).
 pub fn read(text: impl AsRef<[u8]>) -> Result<Reading, Refusal> {
     let text = text.as_ref();
     read_growing(text, Room::for_text(text))

@@ -6,7 +6,7 @@ use crate::word::UnknownWord;
 use std::error::Error;
 use std::fmt;
 
-/// Why a text isn't read. A `place` is that of the token in the data, counted from 1.
+/// Why a text isn't read. A `place` is that of the token in the data, in characters from 1.
 #[derive(Clone, Copy, Debug, PartialEq, Eq)]
 pub enum Refusal {
     /// 1: the text is over [`MAX_TEXT_BYTES`].
@@ -19,9 +19,10 @@ pub enum Refusal {
         /// The number of lent cells.
         lent: usize,
     },
-    /// 3: a byte isn't ASCII.
-    NotAscii {
-        /// The offset of the first such byte, from 0.
+    /// 3: the text is malformed UTF-8; never of a `&str` or `String`.
+    MalformedUtf8 {
+        /// The offset from 0 of the first byte that belongs to no character, as
+        /// [`Utf8Error::valid_up_to`](std::str::Utf8Error::valid_up_to) tells it.
         offset: usize,
     },
     /// 4: the text is blank.
@@ -60,7 +61,7 @@ pub enum Refusal {
     },
     /// 12: the bars would pass the lent records; never from [`read`](crate::read).
     BarRecords {
-        /// The place of the barline; at the data's end, its length plus 1.
+        /// The place of the barline; at the data's end, its length in characters plus 1.
         place: u32,
     },
     /// 13: the data store no note and no rest.
@@ -76,8 +77,8 @@ impl Refusal {
         match answer.number {
             1 => Self::TooLarge { length: text.len() },
             2 => Self::DiagnosticCells { lent },
-            3 => Self::NotAscii {
-                offset: text.iter().take_while(|byte| byte.is_ascii()).count(),
+            3 => Self::MalformedUtf8 {
+                offset: well_formed_bytes(text),
             },
             4 => Self::Blank,
             5 => Self::NoData,
@@ -98,7 +99,7 @@ impl Refusal {
         Some(match self {
             Self::TooLarge { .. } => 1,
             Self::DiagnosticCells { .. } => 2,
-            Self::NotAscii { .. } => 3,
+            Self::MalformedUtf8 { .. } => 3,
             Self::Blank => 4,
             Self::NoData => 5,
             Self::MeasureRest { .. } => 6,
@@ -113,7 +114,7 @@ impl Refusal {
         })
     }
 
-    /// The place in the data, from 1, where the refusal has one.
+    /// The place in the data, in characters from 1, where the refusal has one.
     pub fn place(&self) -> Option<u32> {
         match *self {
             Self::MeasureRest { place }
@@ -125,7 +126,7 @@ impl Refusal {
             | Self::BarRecords { place } => Some(place),
             Self::TooLarge { .. }
             | Self::DiagnosticCells { .. }
-            | Self::NotAscii { .. }
+            | Self::MalformedUtf8 { .. }
             | Self::Blank
             | Self::NoData
             | Self::NoNotes
@@ -144,8 +145,11 @@ impl Refusal {
                     "{lent} diagnostic cells are lent, under {DIAGNOSTIC_CELLS}"
                 )
             }
-            Self::NotAscii { offset } => {
-                write!(f, "the byte at offset {offset} of the text isn't ASCII")
+            Self::MalformedUtf8 { offset } => {
+                write!(
+                    f,
+                    "the text is malformed UTF-8 from byte offset {offset} on"
+                )
             }
             Self::Blank => f.write_str("the text is blank"),
             Self::NoData => f.write_str("the text has fields, but none is @data:"),
@@ -160,6 +164,11 @@ impl Refusal {
             Self::Unknown(unknown) => write!(f, "{unknown}"),
         }
     }
+}
+
+/// How many bytes are well-formed at the text's start.
+fn well_formed_bytes(text: &[u8]) -> usize {
+    str::from_utf8(text).map_or_else(|error| error.valid_up_to(), str::len)
 }
 
 impl fmt::Display for Refusal {

@@ -24,15 +24,15 @@ pub type BarWords = [i32; BAR_WORDS];
 pub struct DiagnosticCell {
     /// Its number, see [`DiagnosticKind`](crate::DiagnosticKind); 0 in a cell that holds none.
     pub number: i32,
-    /// What `place` counts: 1 lines, 2 lines (of an unsupported field), 3 bytes of the data.
+    /// What `place` counts: 1 lines, 2 lines (of an unsupported field), 3 characters of the data.
     pub place_kind: i32,
     /// The place, from 1.
     pub place: i32,
     /// What the value is: 1 a part of the text, 2 the value `()`, 3 a number.
     pub value_kind: i32,
-    /// The offset from 0 of the value in the text, or the number.
+    /// The offset in bytes, from 0, of the value in the text, or the number.
     pub start: i32,
-    /// The offset behind the value in the text.
+    /// The offset in bytes behind the value in the text.
     pub end: i32,
 }
 
@@ -52,7 +52,7 @@ impl DiagnosticCell {
 
 /// The words of a note record, by index.
 pub mod note {
-    /// The place in the data of the token that stored the record, from 1.
+    /// The place in the data of the token that stored the record, in characters from 1.
     pub const PLACE: usize = 0;
     /// The kind, see [`NoteKind`](crate::NoteKind).
     pub const KIND: usize = 1;
@@ -82,7 +82,7 @@ pub mod note {
 
 /// The words of a pitch, by index from its first word.
 pub mod pitch {
-    /// The place of the letter in the data, from 1.
+    /// The place of the letter in the data, in characters from 1.
     pub const PLACE: usize = 0;
     /// The step, see [`Step`](crate::Step).
     pub const STEP: usize = 1;

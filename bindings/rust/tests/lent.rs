@@ -77,12 +77,13 @@ fn accepted_texts_leave_the_rest_clear() {
 fn refused_texts_leave_all_clear() {
     let long = " ".repeat(urthmoli::MAX_TEXT_BYTES + 1);
     let texts = [
-        "", "é", "@c:C", "C=", "CDEFG", "!CDE!", "C/D/E", "Ct)x=", "x",
+        "", "é", "\u{a0}", "@c:C", "C=", "CDEFG", "!CDE!", "C/D/E", "Ct)x=", "x",
     ];
-    for text in texts.into_iter().chain([long.as_str()]) {
+    let texts = texts.into_iter().chain([long.as_str()]);
+    for text in texts.map(str::as_bytes).chain([&b"C)/D\xc3"[..]]) {
         let mut buffers = Poisoned::new(4, 2, 2, DIAGNOSTIC_CELLS);
-        assert!(read_into(text.as_bytes(), buffers.lend()).is_err());
-        assert!(buffers.clear_behind(0, 0, 0), "{text:?}");
+        assert!(read_into(text, buffers.lend()).is_err());
+        assert!(buffers.clear_behind(0, 0, 0), "{}", text.escape_ascii());
     }
 }
 

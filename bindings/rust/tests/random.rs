@@ -1,12 +1,18 @@
-//! Random texts: none panics, and what is read hangs together.
+//! Random texts: none panics, what is read hangs together, and 3 is refused exactly what `from_utf8` refuses.
 
-use urthmoli::{NoteKind, Reading, Refusal, read};
+use urthmoli::{NoteKind, Position, Reading, Refusal, read};
 
 const TEXTS: usize = 20_000;
 
 /// Signs that mean something, those of fields among them.
 const SIGNS: &[u8] =
     b"ABCDEFG''',,xxbbn^^--//::(){};;!!ffi++ttgqqr%G-2$xF@c/3/4.0124568.7 \n@data:@clef:@x:z=";
+
+/// Characters beyond ASCII, of two, three and four bytes, blanks among them.
+const WIDE: [&str; 12] = [
+    "é", "ü", "ß", "\u{301}", "漢", "…", "𝄞", "\u{a0}", "\u{85}", "\u{2003}", "\u{3000}",
+    "\u{feff}",
+];
 
 struct Random(u64);
 
@@ -28,8 +34,27 @@ impl Random {
     }
 }
 
-/// Bars follow each other without gaps, and each note and pitch has its place in the text.
+/// The characters that places count.
+fn data_of(text: &str) -> Vec<char> {
+    let fields = text.lines().rev().map(str::trim);
+    let value = fields.filter_map(|line| line.strip_prefix("@data:")).next();
+    value.map_or(text, str::trim).chars().collect()
+}
+
+/// Bars follow each other without gaps, each note and pitch has its sign in the data, and each span
+/// is its value.
 fn is_whole(reading: &Reading, text: &[u8]) {
+    let text = str::from_utf8(text).unwrap();
+    let data = data_of(text);
+    let sign = |place: u32| data[usize::try_from(place).unwrap() - 1];
+    for found in &reading.diagnostics {
+        let span = found.span.clone();
+        assert!(span.is_none_or(|span| text[span] == found.value));
+        if let Position::Data(place) = found.position {
+            let mark = sign(place);
+            assert!(mark != ' ' && (mark.is_ascii() || found.value == mark.to_string()));
+        }
+    }
     let mut next = 0;
     for (bar, number) in reading.bars.iter().zip(1..) {
         assert_eq!(bar.first_note, next);
@@ -38,9 +63,9 @@ fn is_whole(reading: &Reading, text: &[u8]) {
         for note in reading.notes_of(bar) {
             assert_eq!(note.bar, number);
             assert_eq!(note.kind == NoteKind::Rest, note.pitches.is_empty());
-            let places = note.pitches.iter().map(|pitch| pitch.place);
-            for place in places.chain([note.place]) {
-                assert!(place >= 1 && usize::try_from(place).unwrap() <= text.len());
+            assert!(matches!(sign(note.place), 'A'..='G' | '-' | 'f' | 'i'));
+            for pitch in &note.pitches {
+                assert_eq!(sign(pitch.place).to_string(), format!("{:?}", pitch.step));
             }
         }
     }
@@ -55,7 +80,14 @@ fn is_the_texts_fault(refusal: Refusal) {
 
 /// Whether the text is accepted.
 fn check(text: &[u8]) -> bool {
+    let malformed = str::from_utf8(text).map_err(|error| error.valid_up_to());
+    let refused = malformed.map_err(|offset| Refusal::MalformedUtf8 { offset });
     match read(text) {
+        Err(refusal) if refusal.number() == Some(3) => {
+            assert_eq!(refused, Err(refusal));
+            false
+        }
+        _ if refused.is_err() => panic!("{}", text.escape_ascii()),
         Ok(reading) => {
             is_whole(&reading, text);
             true
@@ -90,4 +122,42 @@ fn any_signs() {
         .filter(|_| check(&random.text(|random| SIGNS[random.below(SIGNS.len())])))
         .count();
     assert!(accepted > TEXTS / 4, "{accepted}");
+}
+
+/// Signs, one in four followed by a wide character.
+fn accented(random: &mut Random) -> Vec<u8> {
+    let signs = random.text(|random| SIGNS[random.below(SIGNS.len())]);
+    let mut text = Vec::new();
+    for sign in signs {
+        text.push(sign);
+        if random.below(4) == 0 {
+            text.extend_from_slice(WIDE[random.below(WIDE.len())].as_bytes());
+        }
+    }
+    text
+}
+
+#[test]
+fn any_characters() {
+    let mut random = Random(0x6c62_272e_07bb_0142);
+    let accepted = (0..TEXTS).filter(|_| check(&accented(&mut random))).count();
+    assert!(accepted > TEXTS / 4, "{accepted}");
+}
+
+#[test]
+fn any_cut_characters() {
+    let mut random = Random(0x0142_6c62_272e_07bb);
+    let malformed = (0..TEXTS).filter(|_| {
+        let mut text = accented(&mut random);
+        text.truncate(random.below(text.len() + 1));
+        check(&text);
+        if text.is_empty() {
+            return false;
+        }
+        let at = random.below(text.len());
+        text[at] ^= 1 << random.below(8);
+        check(&text);
+        str::from_utf8(&text).is_err()
+    });
+    assert!(malformed.count() > TEXTS / 4);
 }

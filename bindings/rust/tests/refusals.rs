@@ -33,16 +33,49 @@ fn too_long_texts() {
 }
 
 #[test]
-fn bytes_that_are_not_ascii() {
-    let message = "refused 3: the byte at offset 1 of the text isn't ASCII".to_string();
-    let expected = (Refusal::NotAscii { offset: 1 }, message);
-    assert_eq!(refused("Cé"), expected);
-    assert_eq!(refused([b'C', 0xff]), expected);
+fn malformed_utf8() {
+    let message = "refused 3: the text is malformed UTF-8 from byte offset 1 on".to_string();
+    let expected = (Refusal::MalformedUtf8 { offset: 1 }, message);
+    for malformed in MALFORMED {
+        assert_eq!(refused([b"C", malformed].concat()), expected);
+        assert_eq!(refused([b"C", malformed, b"C"].concat()), expected);
+    }
+    let behind = [b"@t:\xc3\xa9\n@data:C\n", MALFORMED[0]].concat();
+    let (refusal, _) = refused(&behind);
+    let offset = str::from_utf8(&behind).unwrap_err().valid_up_to();
+    assert_eq!((refusal, offset), (Refusal::MalformedUtf8 { offset }, 14));
+}
+
+/// A byte that never stands, one that only continues, `é` cut off, `/` and NUL in overlong forms, the
+/// first surrogate, the first value above U+10FFFF, a clef sign in four bytes cut off.
+const MALFORMED: [&[u8]; 8] = [
+    b"\xff",
+    b"\xa9",
+    b"\xc3",
+    b"\xc0\xaf",
+    b"\xe0\x80\x80",
+    b"\xed\xa0\x80",
+    b"\xf4\x90\x80\x80",
+    b"\xf0\x9d\x84",
+];
+
+#[test]
+fn malformed_before_blank_and_behind_too_large() {
+    let (refusal, _) = refused(b" \xc2");
+    assert_eq!(refusal, Refusal::MalformedUtf8 { offset: 1 });
+    let length = MAX_TEXT_BYTES + 1;
+    let (refusal, _) = refused(vec![0xff; length]);
+    assert_eq!(refusal, Refusal::TooLarge { length });
 }
 
 #[test]
 fn texts_without_notes() {
-    for blank in ["", " \t\n\u{b}\u{c}\r"] {
+    for blank in [
+        "",
+        " \t\n\u{b}\u{c}\r",
+        "\u{a0}",
+        "\u{3000}\u{85}\n\u{2028}",
+    ] {
         let expected = (Refusal::Blank, "refused 4: the text is blank".to_string());
         assert_eq!(refused(blank), expected);
     }
@@ -114,6 +147,10 @@ fn too_little_lent() {
     );
     assert_eq!(
         refused_with("C ", [1, 0, 0, cells]),
+        "refused 12 at data place 3: the bars pass the lent bar records"
+    );
+    assert_eq!(
+        refused_with("éC", [1, 0, 0, cells]),
         "refused 12 at data place 3: the bars pass the lent bar records"
     );
 }

@@ -47,9 +47,9 @@ letterCheck joined c cells lent = cond joined (failing (leb pitchCapacity (lastF
 abbrev pub barCheck : Counts → ℕ → ℕ
 barCheck c lent = failing (hasContent c && leb lent (c .bars)) 12
 
--- after data of this size: 12, at its size plus 1, then 13, no record is stored
+-- after data of so many characters: 12, at their number plus 1, then 13, no record is stored
 abbrev pub endCheck : Counts → ℕ → ℕ → Stop
-endCheck c lent size = cond (hasContent c && leb lent (c .bars)) (record { number = 12; place = size + 1 }) (cond (eqb (c .notes) 0) (record { number = 13; place = 0 }) (record { number = 0; place = 0 }))
+endCheck c lent characters = cond (hasContent c && leb lent (c .bars)) (record { number = 12; place = characters + 1 }) (cond (eqb (c .notes) 0) (record { number = 13; place = 0 }) (record { number = 0; place = 0 }))
 
 -- the closing `!`: 11, the figure passes the lent figure records
 abbrev pub markCheck : Groups → Counts → ℕ → ℕ

@@ -4,11 +4,13 @@ ghost use mathlib.Core.Bool.{true};
 ghost use Prim.Native.Nat.{_+_, _*_, _≤_, _<_};
 ghost use lib.ListN.{length};
 ghost use Rattle.rules.specs.Limits.{noteLimit, noteSize};
+ghost use Rattle.rules.specs.Characters.{charactersIn};
 ghost use Rattle.rules.specs.Rules.{closing};
 ghost use Rattle.rules.specs.Refusals.{isFermata};
 ghost use Rattle.records.specs.Cells.{wordLimit};
 ghost use Rattle.steps.specs.Relation.{countIn};
 ghost use Rattle.checks.specs.Checks.{failing, storing, letterCheck, barCheck, endCheck, markCheck, trillCheck, groupTimed, groupCheck};
+use character::characters_in;
 use limits::Counts;
 use limits::Groups;
 use limits::Pae;
@@ -75,15 +77,15 @@ pub fn check_bar(counts: Counts, lent: usize) -> u8
     failing(has_content(counts) & (lent <= counts.bars), 12)
 }
 
-// After data of this length: 12 where the bar to store has no room, at data length plus 1; 13 where no record is stored.
-pub fn check_end(counts: Counts, lent: usize, length: usize) -> Stop
-    requires { ⌜ length < wordLimit ⌝ }
-    ensures { λ r. ⌜ r ≡ endCheck counts lent length ⌝ }
+// After the data: 12 where the bar to store has no room, at data length in characters plus 1; 13 where no record is stored.
+pub fn check_end(counts: Counts, lent: usize, data: &[u8]) -> Stop
+    requires { ⌜ length (now «data») < wordLimit ⌝ }
+    ensures { λ r. ⌜ r ≡ endCheck counts lent (charactersIn (now («data» .entry))) ⌝ }
 {
     if check_bar(counts, lent) != 0 {
         return Stop {
             number: 12,
-            place: (length + 1) as u32,
+            place: (characters_in(data) + 1) as u32,
         };
     }
     if counts.notes == 0 {

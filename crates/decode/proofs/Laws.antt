@@ -3,24 +3,26 @@ use Prim.Native.Nat.{ℕ, _+_, _-_, _%_, _≤_, _<_}
 use Prim.Native.Char.{code}
 use native.Mathlib.Nat.{mod-lt}
 use native.Mathlib.Omega.{arith}
-use mathlib.Core.Path.{_≡_, refl, sym, subst, _∙_}
+use mathlib.Core.Path.{_≡_, refl, sym, ap, subst, _∙_}
 use mathlib.Core.Bool.{Bool, true, false, cond, _&&_, _||_}
 use mathlib.Core.Option.{Option, none, some}
-use mathlib.Core.List.{List, [], _∷_}
+use mathlib.Core.List.{List, [], _∷_, _++_}
 use lib.IntN.{ℤ, pos, negsuc}
-use lib.ListN.{length, take}
-use lib.Seq.{length-take-le}
+use lib.ListN.{length, getD}
 use lib.Dec.{eqb, leb}
 use borrow.Author.Tests.{leb-true, eqb-true, ne-eqb}
 use Rattle.rules.specs.Text.{bytes, has, isDigit, isNoteLetter}
+use Rattle.rules.specs.Characters.{characterSize, codePoint, isBlank}
 use Rattle.rules.specs.Tokens.{tokenOf}
 use Rattle.rules.specs.Values.{stepOf, raisedOctave, loweredOctave, sharpened, flattened}
+use Rattle.character.specs.Blanks.{isLowBlank}
+use Rattle.character.proofs.CharacterLaws.{blank-low}
 use Rattle.values.specs.Rhythm.{octaveIn}
 use Rattle.values.specs.declared.rhythm.Octave.{Octave}
 use Rattle.values.specs.declared.rhythm.Octave.the-variants as v
 use Rattle.values.proofs.Below.{agree}
 use Rattle.values.proofs.attributes.KeyLaws.{letter-bounds}
-use Rattle.decode.specs.Decode.{tokenIn, byClass, FineOctave, Decoded}
+use Rattle.decode.specs.Decode.{byClass, FineOctave, Decoded}
 use Rattle.decode.specs.declared.Token.{Token}
 use Rattle.decode.specs.declared.Token.the-variants as t
 
@@ -35,6 +37,27 @@ no-dot b h e = let l : 48 ≤ b = leb-true 48 b (both (leb 48 b) (leb b 57) h .0
 
 pub step-below : (b : ℕ) → isNoteLetter b ≡ true → stepOf b < 7
 step-below b h = subst (λ (n : ℕ). n < 7) (agree (λ (k : ℕ). (k - 65 + 5) % 7) stepOf 65 7 refl b (letter-bounds b h .0) (omega (arith, letter-bounds b h .1))) (mod-lt (b - 65 + 5) (omega arith))
+
+-- ---- the first byte, and the size
+
+module _ {xs value : List ℕ} {b : ℕ} (e : xs ≡ b ∷ value) where
+  pub first-is : {k : ℕ} → getD xs 0 0 ≡ k → b ≡ k
+  first-is h = ap (λ (ys : List ℕ). getD ys 0 0) (sym e) ∙ h
+
+  pub size-is : length xs ≡ 1 + length value
+  size-is = let n : length xs ≡ length (b ∷ value) = ap length e in omega (arith, n)
+
+  -- what a test says of the first byte
+  pub first-tested : (p : ℕ → Bool) {r t : Bool} → r ≡ p (getD xs 0 0) → r ≡ t → p b ≡ t
+  first-tested p h q = ap p (first-is refl) ∙ sym h ∙ q
+
+  -- whether it is blank, below 128
+  pub low-tested : getD xs 0 0 < 128 → {r t : Bool} → r ≡ isLowBlank (getD xs 0 0) → r ≡ t → isBlank (b ∷ value) ≡ t
+  low-tested l h q = blank-low (b ∷ value) (omega arith) (rw (first-is refl) l) ∙ first-tested isLowBlank h q
+
+-- what the token is that has the first byte b and `size` bytes, whatever bytes follow the first
+abbrev Sized : ℕ → ℕ → Token → Type 0
+Sized b size token = (value : List ℕ) → size ≡ 1 + length value → Decoded b value token
 
 -- ---- octaves and accidentals
 
@@ -54,13 +77,13 @@ lowered-below : (k : ℕ) (t : Bool) → Below (cond t (some (4 - k)) none)
 lowered-below k true = omega arith
 lowered-below k false = tt
 
-pub raised : (octave : Octave) (k : ℕ) → octaveIn octave ≡ raisedOctave k → Decoded (code "'") k (t.Octave octave)
+pub raised : (octave : Octave) (k : ℕ) → octaveIn octave ≡ raisedOctave k → Sized (code "'") k (t.Octave octave)
 unfolding tokenOf
-raised octave k q = (λ value e. rw (q, e), fine-octave octave q (raised-below k (leb (3 + k) 9) refl))
+raised octave k q value e = (rw (q, e), fine-octave octave q (raised-below k (leb (3 + k) 9) refl))
 
-pub lowered : (octave : Octave) (k : ℕ) → octaveIn octave ≡ loweredOctave k → Decoded (code ",") k (t.Octave octave)
+pub lowered : (octave : Octave) (k : ℕ) → octaveIn octave ≡ loweredOctave k → Sized (code ",") k (t.Octave octave)
 unfolding tokenOf
-lowered octave k q = (λ value e. rw (q, e), fine-octave octave q (lowered-below k (leb k 4)))
+lowered octave k q value e = (rw (q, e), fine-octave octave q (lowered-below k (leb k 4)))
 
 sharp : (t : Bool) → cond t (pos 1) (pos 2) ≡ pos 3 → ⊥
 sharp true e = let z : _≡_ {A = ℕ} 1 3 = cc in omega arith
@@ -70,17 +93,27 @@ flat : (t : Bool) → cond t (negsuc 0) (negsuc 1) ≡ pos 3 → ⊥
 flat true e = let z : _≡_ {A = ℕ} 0 1 = cc in omega arith
 flat false e = let z : _≡_ {A = ℕ} 0 1 = cc in omega arith
 
-pub sharpens : (alter : ℤ) (k : ℕ) → alter ≡ sharpened k → Decoded (code "x") k (t.Accidental alter)
+pub sharpens : (alter : ℤ) (k : ℕ) → alter ≡ sharpened k → Sized (code "x") k (t.Accidental alter)
 unfolding tokenOf
-sharpens alter k q = (λ value e. rw (q, e), λ e. sharp (eqb k 1) (sym q ∙ e))
+sharpens alter k q value e = (rw (q, e), λ e. sharp (eqb k 1) (sym q ∙ e))
 
-pub flattens : (alter : ℤ) (k : ℕ) → alter ≡ flattened k → Decoded (code "b") k (t.Accidental alter)
+pub flattens : (alter : ℤ) (k : ℕ) → alter ≡ flattened k → Sized (code "b") k (t.Accidental alter)
 unfolding tokenOf
-flattens alter k q = (λ value e. rw (q, e), λ e. flat (eqb k 1) (sym q ∙ e))
+flattens alter k q value e = (rw (q, e), λ e. flat (eqb k 1) (sym q ∙ e))
 
-pub natural : (k : ℕ) → Decoded (code "n") k (t.Accidental (pos 0))
+pub natural : (value : List ℕ) → Decoded (code "n") value (t.Accidental (pos 0))
 unfolding tokenOf
-natural k = (λ value e. refl, λ e. let z : _≡_ {A = ℕ} 0 3 = cc in omega arith)
+natural value = (refl, λ e. let z : _≡_ {A = ℕ} 0 3 = cc in omega arith)
+
+-- ---- a space and a line's end
+
+pub space : (value : List ℕ) → Decoded 32 value t.Blank
+unfolding tokenOf isBlank codePoint characterSize
+space value = (refl, tt)
+
+pub line-end : (value : List ℕ) → Decoded 10 value t.Blank
+unfolding tokenOf isBlank codePoint characterSize
+line-end value = (refl, tt)
 
 -- ---- a first byte that goes by its class
 
@@ -106,14 +139,8 @@ apart N (j ∷ ks) b h = more (apart (N × (b ≡ j → ⊥)) ks b h)
 
 -- the first bytes that do not go by their class
 abbrev ownBytes : List ℕ
-ownBytes = bytes "%$@',xbn^-/:gqr!fi{}(;)+t="
+ownBytes = bytes "%$@',xbn^-/:gqr!fi{}(;)+t= " ++ 10 ∷ []
 
 pub by-class : (b : ℕ) (value : List ℕ) → Apart (Unit {0}) ownBytes b → byClass b value ≡ tokenOf b value
 unfolding tokenOf
 by-class b value h = let unlike : Unlike ownBytes b = apart (Unit {0}) ownBytes b h .1 in simp unlike
-
--- ---- for callers
-
--- the token of `size` bytes at the start of the text b ∷ bs
-pub decoded-value : (b size : ℕ) (token : Token) (bs : List ℕ) → Decoded b size token → 0 < size → size ≤ 1 + length bs → tokenIn b (take (size - 1) bs) token ≡ tokenOf b (take (size - 1) bs)
-decoded-value b size token bs d l h = let n : length (take (size - 1) bs) ≡ size - 1 = length-take-le (size - 1) bs (omega arith) in d .0 (take (size - 1) bs) (omega arith)

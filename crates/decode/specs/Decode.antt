@@ -1,11 +1,11 @@
 -- What the program's tokens are in document 01's rules. Assumes nothing.
-use Prim.Native.Nat.{ℕ, _+_, _<_}
+use Prim.Native.Nat.{ℕ, _<_}
 use Prim.Native.Char.{code}
 use mathlib.Core.Path.{_≡_}
 use mathlib.Core.List.{List, _∷_}
-use lib.ListN.{length}
 use lib.IntN.{pos}
-use Rattle.rules.specs.Text.{if_then_else_, isBlank, isDigit, isNoteLetter}
+use Rattle.rules.specs.Text.{if_then_else_, isDigit, isNoteLetter}
+use Rattle.rules.specs.Characters.{isBlank}
 use Rattle.rules.specs.Values.{clefOf, keyOf, meterOf, countOf, patternOf, stepOf}
 use Rattle.rules.specs.Tokens as rules
 use Rattle.values.specs.Rhythm.{octaveIn, barlineIn}
@@ -55,12 +55,12 @@ tokenIn b value t.Colon = rules.other rules.colon
 tokenIn b value t.MeasureRest = rules.other rules.wholeBarRest
 tokenIn b value t.Unknown = rules.other rules.unknown
 
--- a token whose first byte has no rule of its own goes by the class of that byte
+-- a token whose first byte has no rule of its own goes by the class of that byte, or of its character
 abbrev pub byClass : ℕ → List ℕ → rules.Token
 byClass b value =
     if isDigit b then rules.duration (patternOf (b ∷ value))
     else if isNoteLetter b then rules.letter (stepOf b)
-    else if isBlank b then rules.other rules.blank
+    else if isBlank (b ∷ value) then rules.other rules.blank
     else rules.other rules.unknown
 
 -- an octave is one of ten
@@ -89,6 +89,6 @@ Fine b t.Colon = Unit {0}
 Fine b t.MeasureRest = Unit {0}
 Fine b t.Unknown = Unit {0}
 
--- what the token is that has the first byte b and `size` bytes, whatever bytes `value` follow the first
-abbrev pub Decoded : ℕ → ℕ → Token → Type 0
-Decoded b size t = ((value : List ℕ) → size ≡ 1 + length value → tokenIn b value t ≡ rules.tokenOf b value) × Fine b t
+-- what the token is that has the first byte b and then the bytes `value`
+abbrev pub Decoded : ℕ → List ℕ → Token → Type 0
+Decoded b value t = (tokenIn b value t ≡ rules.tokenOf b value) × Fine b t

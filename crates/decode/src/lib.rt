@@ -1,9 +1,11 @@
 // What a token of the data is, by its bytes.
 ghost use mathlib.Core.Path.{_≡_};
-ghost use Prim.Native.Nat.{ℕ, _<_};
-ghost use mathlib.Core.List.{List};
+ghost use Prim.Native.Nat.{ℕ, _+_, _<_};
+ghost use mathlib.Core.List.{List, _∷_};
+ghost use lib.ListN.{length};
 ghost use Rattle.decode.specs.Decode.{Decoded, tokenIn, byClass, Fine};
-use text::is_blank;
+use character::is_blank;
+use character::is_low_blank;
 use text::is_digit;
 use text::is_note_letter;
 use values::rhythm::Barline;
@@ -61,7 +63,7 @@ pub enum Token {
 // A lone `:` (58), or the barline that begins with it.
 fn colon(size: usize) -> Token
     requires { ⌜ 0 < size ⌝ }
-    ensures { λ r. ⌜ Decoded 58 size r ⌝ }
+    ensures { λ r. ⌜ ((value : List ℕ) → size ≡ 1 + length value → Decoded 58 value r) ⌝ }
 {
     if size == 1 {
         return Token::Colon;
@@ -72,7 +74,7 @@ fn colon(size: usize) -> Token
 // `q` (113) or `qq`.
 fn grace(size: usize) -> Token
     requires { ⌜ 0 < size ⌝ }
-    ensures { λ r. ⌜ Decoded 113 size r ⌝ }
+    ensures { λ r. ⌜ ((value : List ℕ) → size ≡ 1 + length value → Decoded 113 value r) ⌝ }
 {
     if size == 1 {
         return Token::Grace(false);
@@ -80,28 +82,37 @@ fn grace(size: usize) -> Token
     Token::GraceGroup(true)
 }
 
-// A token whose first byte is none of those in `decode` goes by the class of that byte.
-fn by_class(first: u8) -> Token
-    ensures { λ r. ⌜ ((value : List ℕ) → tokenIn first value r ≡ byClass first value) × Fine first r ⌝ }
+// A token whose first byte is none of those in `decode` goes by the class of that byte, or of its character.
+fn by_class(token: &[u8]) -> Token
+    requires { ⌜ 0 < length (now token) ⌝ }
+    ensures { λ r. ⌜ ((b : ℕ) (value : List ℕ) → now (token .entry) ≡ b ∷ value → (tokenIn b value r ≡ byClass b value) × Fine b r) ⌝ }
 {
+    let first = token[0];
     if is_digit(first) {
         return Token::Duration;
     }
     if is_note_letter(first) {
         return Token::Letter(step_of(first));
     }
-    if is_blank(first) {
+    if first < 128 {
+        if is_low_blank(first) {
+            return Token::Blank;
+        }
+        return Token::Unknown;
+    }
+    if is_blank(token) {
         return Token::Blank;
     }
     Token::Unknown
 }
 
-// What the token is that begins with the byte `first` and has `size` bytes.
-pub fn decode(first: u8, size: usize) -> Token
-    requires { ⌜ 0 < size ⌝ }
-    ensures { λ r. ⌜ Decoded first size r ⌝ }
+// What a token is.
+pub fn decode(token: &[u8]) -> Token
+    requires { ⌜ 0 < length (now token) ⌝ }
+    ensures { λ r. ⌜ ((b : ℕ) (value : List ℕ) → now (token .entry) ≡ b ∷ value → Decoded b value r) ⌝ }
 {
-    match first {
+    let size = token.len();
+    match token[0] {
         b'%' => Token::Clef,
         b'$' => Token::Key,
         b'@' => Token::Meter,
@@ -128,6 +139,8 @@ pub fn decode(first: u8, size: usize) -> Token
         b'+' => Token::Marking(Marking::Tie),
         b't' => Token::Marking(Marking::Trill),
         b'=' => Token::MeasureRest,
-        _ => by_class(first),
+        b' ' => Token::Blank,
+        b'\n' => Token::Blank,
+        _ => by_class(token),
     }
 }

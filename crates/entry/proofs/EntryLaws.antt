@@ -6,10 +6,11 @@ use mathlib.Core.Bool.{Bool, true, false, not}
 use mathlib.Core.Option.{Option, none, some, Option·getD}
 use mathlib.Core.List.{List, [], _∷_}
 use lib.ListN.{length}
-use lib.Dec.{leb, ltb}
+use lib.Dec.{ltb}
 use borrow.Author.Tests.{ltb-false}
 use Rattle.rules.specs.Limits.{textLimit, diagnosticLimit}
-use Rattle.rules.specs.Text.{isBlank, every, has, Part}
+use Rattle.rules.specs.Text.{Part}
+use Rattle.rules.specs.Characters.{isFormed, allBlank}
 use Rattle.rules.specs.Records.{_or_, isSome, given}
 use Rattle.rules.specs.Fields.{fieldsOf, dataOf}
 use Rattle.rules.specs.Refusals.{LentRecords, Refusal, refusal, firstFailing, textRefusal, dataRefusal, refusalOf}
@@ -39,8 +40,8 @@ none-fails false false false false h = (refl, refl, refl, refl)
 
 module _ (text : List ℕ) where
   module _ (cells : ℕ) (h : entryCheck text cells ≡ 0) where
-    passes : (ltb textLimit (length text) ≡ false) × (ltb cells diagnosticLimit ≡ false) × (has (leb 128) text ≡ false) × (every isBlank text ≡ false)
-    passes = none-fails (ltb textLimit (length text)) (ltb cells diagnosticLimit) (has (leb 128) text) (every isBlank text) (unfold entryCheck in h)
+    passes : (ltb textLimit (length text) ≡ false) × (ltb cells diagnosticLimit ≡ false) × (not (isFormed text) ≡ false) × (allBlank text ≡ false)
+    passes = none-fails (ltb textLimit (length text)) (ltb cells diagnosticLimit) (not (isFormed text)) (allBlank text) (unfold entryCheck in h)
 
     pub text-within : length text ≤ textLimit
     text-within = ltb-false textLimit (length text) (passes .0)
@@ -53,7 +54,7 @@ module _ (text : List ℕ) where
     pub text-refused : {n : ℕ} → entryCheck text (lent .diagnostics) ≡ n → (n ≡ 0 → ⊥) → textRefusal text lent ≡ some (refusal n 0)
     unfolding entryCheck
     text-refused e h =
-        first-refused (ltb textLimit (length text)) (ltb (lent .diagnostics) diagnosticLimit) (has (leb 128) text) (every isBlank text) (not (isSome (fieldsOf text .dataValue))) (λ q. h (sym e ∙ q))
+        first-refused (ltb textLimit (length text)) (ltb (lent .diagnostics) diagnosticLimit) (not (isFormed text)) (allBlank text) (not (isSome (fieldsOf text .dataValue))) (λ q. h (sym e ∙ q))
         ∙ ap (λ (m : ℕ). some (refusal m 0)) e
 
     module _ (h : entryCheck text (lent .diagnostics) ≡ 0) where

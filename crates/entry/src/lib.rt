@@ -1,9 +1,9 @@
 // The checks at the entry, before the text is read.
 ghost use mathlib.Core.Path.{_≡_};
 ghost use Rattle.entry.specs.Entry.{entryCheck};
+use character::is_all_blank;
+use character::is_formed;
 use limits::Pae;
-use text::is_ascii;
-use text::is_blank_text;
 
 // The first of checks 1 to 4 that fails, 0 where none does.
 pub fn entry_check(text: &[u8], cells: usize) -> u8
@@ -15,10 +15,10 @@ pub fn entry_check(text: &[u8], cells: usize) -> u8
     if cells < Pae::MAX_DIAGNOSTICS {
         return 2;
     }
-    if !is_ascii(text) {
+    if !is_formed(text) {
         return 3;
     }
-    if is_blank_text(text) {
+    if is_all_blank(text) {
         return 4;
     }
     0

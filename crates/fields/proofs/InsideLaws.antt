@@ -4,7 +4,8 @@ use native.Mathlib.Omega.{arith}
 use mathlib.Core.Path.{_≡_, sym, ap, subst}
 use mathlib.Core.List.{List}
 use lib.ListN.{length, take, drop, length-take, length-drop}
-use Rattle.rules.specs.Text.{Part, endOf, without, trim}
+use Rattle.rules.specs.Text.{Part, endOf, without}
+use Rattle.rules.specs.Characters.{trim}
 use Rattle.text.specs.Parts.{partAt}
 use Rattle.text.proofs.PartLaws.{part-without}
 use Rattle.text.proofs.TrimLaws.{trimmed}

@@ -6,7 +6,8 @@ use mathlib.Core.Option.{Option, none, some}
 use mathlib.Core.List.{List, [], _∷_, map}
 use lib.IntN.{ℤ}
 use lib.ListN.{take, drop}
-use Rattle.rules.specs.Text.{Part, without, trim}
+use Rattle.rules.specs.Text.{Part, without}
+use Rattle.rules.specs.Characters.{trim}
 use Rattle.rules.specs.Values.{clefOf, keyOf, meterOf}
 use Rattle.rules.specs.Records.{given, isEmpty, atLine, atField, Diagnostic}
 use Rattle.rules.specs.Diagnostics.{diagnostic, clefDiagnosed, keyDiagnosed, meterDiagnosed}

@@ -9,6 +9,7 @@ use lib.Dec.{eqb, ltb}
 use lib.ListN.{length, set, take, drop}
 use borrow.Author.Tests.{eqb-true}
 use Rattle.rules.specs.Text.{bytes, isText}
+use Rattle.rules.specs.Characters.{characterSize}
 use Rattle.rules.specs.Values.{Clef, clefNamed, isMensural, clefOf, isPowerOfTwo, Meter, plainMeter, countOf, afterPlus, slashAt, meterOf}
 use Rattle.rules.specs.Records.{given}
 use Rattle.steps.specs.Relation.{numberIn}
@@ -43,8 +44,8 @@ pub clef-some : (xs : List ℕ) → given (clefOf xs .clef) none numberIn ≡ cl
 unfolding clefOf
 clef-some xs = go (isMensural xs)
   where
-    go : (b : Bool) → let c = cond {A = Clef} b (record { clef = clefNamed (set xs 1 (code "-")); mensural = true }) (record { clef = clefNamed xs; mensural = false }) in clefAgain (c .clef) ≡ c .clef
-    go true = named-some (set xs 1 (code "-"))
+    go : (b : Bool) → let c = cond {A = Clef} b (record { clef = clefNamed (set xs (characterSize xs) (code "-")); mensural = true }) (record { clef = clefNamed xs; mensural = false }) in clefAgain (c .clef) ≡ c .clef
+    go true = named-some (set xs (characterSize xs) (code "-"))
     go false = named-some xs
 
 plain-some : (n d : Option ℕ) → meterAgain (plainMeter n d) ≡ plainMeter n d

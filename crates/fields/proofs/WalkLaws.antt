@@ -7,7 +7,7 @@ use mathlib.Core.Bool.{Bool, true, false, _||_, or-true}
 use mathlib.Core.List.{List, [], _∷_}
 use lib.IntN.{ℤ, pos}
 use lib.ListN.{length, drop, length-replicate}
-use Rattle.rules.specs.Text.{trim}
+use Rattle.rules.specs.Characters.{trim}
 use Rattle.rules.specs.Rules.{fresh}
 use Rattle.rules.specs.Fields as rules
 use Rattle.rules.specs.Fields.{Line, lineSize, lineAt, linesAfter, linesOf, isField, hasField, inFieldForm, fieldsAfter, lineDiagnosed, linesDiagnosed}

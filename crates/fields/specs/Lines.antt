@@ -5,7 +5,8 @@ use mathlib.Core.List.{List, [], _∷_, map}
 use lib.IntN.{ℤ}
 use lib.ListN.{length}
 use Rattle.rules.specs.Limits.{textLimit}
-use Rattle.rules.specs.Text.{Part, endOf, trim}
+use Rattle.rules.specs.Text.{Part, endOf}
+use Rattle.rules.specs.Characters.{trim}
 use Rattle.rules.specs.Values.{clefOf, keyOf, meterOf}
 use Rattle.rules.specs.Records.{given, atLine, atField, Diagnostic}
 use Rattle.rules.specs.Diagnostics.{diagnostic, clefDiagnosed, keyDiagnosed, meterDiagnosed}

@@ -5,7 +5,7 @@ ghost use mathlib.Core.List.{map};
 ghost use Prim.Native.Nat.{_<_, _≤_};
 ghost use lib.ListN.{length};
 ghost use Rattle.rules.specs.Limits.{textLimit};
-ghost use Rattle.rules.specs.Text.{trim};
+ghost use Rattle.rules.specs.Characters.{trim};
 ghost use Rattle.rules.specs.Fields.{isField, linesOf, inFieldForm, fieldsAfter, linesDiagnosed, fieldsOf, fieldsDiagnosed};
 ghost use Rattle.rules.specs.Words.{diagnosticWords, zeros};
 ghost use Rattle.text.specs.Parts.{partAt};

@@ -1,6 +1,7 @@
 // The first layer: the typed line, with a ruler of places, and the remarks under it.
-ghost use Prim.Native.Nat.{_+_, _<_, _≤_};
+ghost use Prim.Native.Nat.{_<_, _≤_};
 ghost use lib.ListN.{length};
+use super::characters::piece_from;
 use super::messages::MARGIN;
 use super::messages::put_caret;
 use super::messages::put_carets;
@@ -10,7 +11,6 @@ use super::row::ROW;
 use super::row::end_row;
 use super::row::pad;
 use super::row::put;
-use super::row::put_part;
 use super::row::say;
 use super::row::say_heading;
 use super::row::say_number;
@@ -21,21 +21,10 @@ use text::begins_with;
 use text::line_end;
 use text::trim;
 
-// So many places stand in a row.
+// So many characters stand in a row.
 const WIDTH: usize = 70;
 
-// ---- pieces of a long line
-
-// The end of the piece that begins at `at`.
-fn piece_end(at: usize, end: usize) -> usize
-    requires { ⌜ at < end ⌝ }
-    ensures { λ r. ⌜ (at < r) × (r ≤ end) ⌝ }
-{
-    if end - at <= WIDTH {
-        return end;
-    }
-    at + WIDTH
-}
+// ---- rows
 
 // A row's label, up to the margin.
 fn put_label(row: &mut [u8; ROW], words: &[u8]) -> usize {
@@ -55,8 +44,8 @@ fn put_line_label(row: &mut [u8; ROW], number: usize) -> usize {
 }
 
 // The row ends with a part of a text.
-fn end_with(row: &mut [u8; ROW], n: usize, text: &[u8], start: usize, end: usize) {
-    let m = put_part(row, n, text, start, end);
+fn end_with(row: &mut [u8; ROW], n: usize, part: &[u8]) {
+    let m = say(row, n, part);
     end_row(row, m);
 }
 
@@ -74,16 +63,16 @@ fn digits_before(number: usize, back: usize) -> usize {
     }
 }
 
-// What the ruler has above the place behind an offset: each tenth place is the last digit of its number.
-fn tick(offset: usize) -> u8 {
-    if Pae::MAX_INPUT_BYTES < offset {
+// What the ruler has above the place behind so many: each tenth place is the last digit of its number.
+fn tick(before: usize) -> u8 {
+    if Pae::MAX_INPUT_BYTES < before {
         return b'.';
     }
-    if offset == 0 {
+    if before == 0 {
         return b'1';
     }
-    let back = 9 - offset % 10;
-    let digits = digits_before(offset + back + 1, back);
+    let back = 9 - before % 10;
+    let digits = digits_before(before + back + 1, back);
     if 0 < digits {
         return b'0' + (digits % 10) as u8;
     }
@@ -94,19 +83,19 @@ fn tick(offset: usize) -> u8 {
 }
 
 // The last place of a ruler: its tens are whole.
-fn whole_tens(end: usize) -> usize {
-    if Pae::MAX_INPUT_BYTES < end {
-        return end;
+fn whole_tens(most: usize) -> usize {
+    if Pae::MAX_INPUT_BYTES < most {
+        return most;
     }
-    (end + 9) / 10 * 10
+    (most + 9) / 10 * 10
 }
 
-// The ruler above the places from one offset to another.
-fn show_ruler(start: usize, end: usize) {
+// The ruler of the places above one number and up to another.
+fn show_ruler(above: usize, most: usize) {
     let mut row = [0u8; ROW];
     let mut n = put_label(&mut row, b"  place");
-    let mut i = start;
-    while i < end {
+    let mut i = above;
+    while i < most {
         n = put(&mut row, n, tick(i));
         i += 1;
     }
@@ -122,36 +111,40 @@ pub(crate) struct Outcome {
     pub place: u32,
 }
 
-// A piece of the data with its ruler, and under it what is diagnosed or refused there.
+// A piece of the data with its ruler, and under it what is diagnosed or refused there. Its places are above one number and at most another.
 fn show_data_piece(
     text: &[u8],
-    data: &[u8],
-    start: usize,
-    end: usize,
+    piece: &[u8],
+    above: usize,
+    most: usize,
     diagnostics: &[i32],
     outcome: Outcome,
 ) {
-    show_ruler(start, whole_tens(end));
+    show_ruler(above, whole_tens(most));
     let mut row = [0u8; ROW];
     let mut n = put_label(&mut row, b"  data");
-    end_with(&mut row, n, data, start, end);
-    n = put_carets(&mut row, 0, diagnostics, outcome.diagnostics, start, end);
+    end_with(&mut row, n, piece);
+    n = put_carets(&mut row, 0, diagnostics, outcome.diagnostics, above, most);
     let place = outcome.place as usize;
-    if (start < place) & (place <= end) {
-        n = put_caret(&mut row, n, place, start);
+    if (above < place) & (place <= most) {
+        n = put_caret(&mut row, n, place, above);
     }
     if 0 < n {
         end_row(&mut row, n);
-        show_diagnostics(text, diagnostics, outcome.diagnostics, true, start, end);
+        show_diagnostics(text, diagnostics, outcome.diagnostics, true, above, most);
     }
 }
 
 // The data in pieces.
 fn show_data(text: &[u8], data: &[u8], diagnostics: &[i32], outcome: Outcome) {
+    let mut above = 0;
     let mut at = 0;
     while at < data.len() {
-        let end = piece_end(at, data.len());
-        show_data_piece(text, data, at, end, diagnostics, outcome);
+        let piece = piece_from(data, at, WIDTH);
+        let end = piece.end;
+        let most = above + piece.size;
+        show_data_piece(text, &data[at..end], above, most, diagnostics, outcome);
+        above = most;
         at = end;
     }
 }
@@ -159,16 +152,17 @@ fn show_data(text: &[u8], data: &[u8], diagnostics: &[i32], outcome: Outcome) {
 // ---- the lines of the field form
 
 // A line in pieces.
-fn show_pieces(text: &[u8], start: usize, end: usize, number: usize) {
+fn show_pieces(line: &[u8], number: usize) {
     let mut label = number;
-    let mut at = start;
-    while at < end {
-        let next = piece_end(at, end);
+    let mut at = 0;
+    while at < line.len() {
+        let piece = piece_from(line, at, WIDTH);
+        let end = piece.end;
         let mut row = [0u8; ROW];
         let n = put_line_label(&mut row, label);
-        end_with(&mut row, n, text, at, next);
+        end_with(&mut row, n, &line[at..end]);
         label = 0;
-        at = next;
+        at = end;
     }
 }
 
@@ -181,15 +175,19 @@ fn show_line(
     data: usize,
     diagnostics: &[i32],
     count: u32,
-) {
+)
+    requires { ⌜ (start ≤ end) × (end ≤ length (now text)) ⌝ }
+{
     if number == 0 {
         return;
     }
-    if (start <= data) & (data <= end) {
-        show_pieces(text, start, data, number);
-        return;
+    if start <= data {
+        if data <= end {
+            show_pieces(&text[start..data], number);
+            return;
+        }
     }
-    show_pieces(text, start, end, number);
+    show_pieces(&text[start..end], number);
     show_diagnostics(text, diagnostics, count, false, number - 1, number);
 }
 
@@ -244,7 +242,7 @@ pub(crate) fn show_text(
     }
     show_data(text, data, diagnostics, outcome);
     if outcome.refusal != 0 {
-        show_refusal(outcome.refusal, outcome.place);
+        show_refusal(text, outcome.refusal, outcome.place);
     }
     keysig
 }

@@ -3,6 +3,7 @@
 // that at the end of the input, belong to no text.
 mod bars; // bars.rt: the fourth layer
 mod cells; // cells.rt: words of the records
+mod characters; // characters.rt: characters of a text
 mod line; // line.rt: the first layer
 mod lookback; // lookback.rt: the look-back over the marks
 mod marks; // marks.rt: the second layer
@@ -22,6 +23,8 @@ use limits::Pae;
 use line::Outcome;
 use line::show_text;
 use lookback::enter_stored;
+use marks::ENDS;
+use marks::MARKS;
 use marks::cut;
 use marks::show_marks;
 use messages::show_refusal;
@@ -49,9 +52,6 @@ const SCRATCH: usize = Pae::MAX_DIAGNOSTICS * DIAGNOSTIC;
 
 const CELLS: usize = Pae::MAX_DIAGNOSTICS;
 
-// Marks are numbered from 1, and a text has no more of them than bytes.
-const MARKS: usize = 65536;
-
 // The layers of a text that is accepted.
 fn show_layers(
     data: &[u8],
@@ -65,7 +65,7 @@ fn show_layers(
 ) {
     let mut stored = [0u32; MARKS];
     enter_stored(&mut stored, ends, count, notes, reading.notes);
-    show_notes(notes, reading.notes, data);
+    show_notes(notes, reading.notes, data, ends, count);
     show_bars(bars, reading.bars);
     let alters = fields.attributes.alters;
     let key = KeyField {
@@ -98,7 +98,7 @@ fn show_part(
     if (0 < reading.number) & (reading.number < 6) {
         return;
     }
-    let mut ends = [0usize; MARKS];
+    let mut ends = [0usize; ENDS];
     let count = cut(data, &mut ends);
     show_marks(data, &ends, count);
     if reading.number == 0 {
@@ -115,15 +115,15 @@ fn data_offset(fields: Fields) -> usize {
 }
 
 // A text that is longer than a reading takes.
-fn refuse_long() {
+fn refuse_long(text: &[u8]) {
     say_heading(b"1. The typed line");
-    show_refusal(1, 0);
+    show_refusal(text, 1, 0);
 }
 
 // Reads a text and shows it.
 fn show_one(text: &[u8]) {
     if Pae::MAX_INPUT_BYTES < text.len() {
-        refuse_long();
+        refuse_long(text);
         return;
     }
     let mut notes = [0i32; NOTE_WORDS];

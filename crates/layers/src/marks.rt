@@ -1,12 +1,14 @@
-// The second layer: the marks of the data, its tokens. They are numbered from 1; `ends` has the offset behind each, and 0 before the first.
+// The second layer: the marks of the data, its tokens, numbered from 1. `ends` has the offset behind each and, MARKS words further on, how
+// many characters stand before that offset; both are 0 before the first mark.
 ghost use Prim.Native.Nat.{_<_, _≤_};
 ghost use lib.ListN.{length};
+use super::characters::characters_between;
+use super::characters::piece_from;
 use super::row::ROW;
 use super::row::end_row;
 use super::row::number_in;
 use super::row::pad;
 use super::row::put;
-use super::row::put_part;
 use super::row::say;
 use super::row::say_heading;
 use super::row::say_number;
@@ -35,14 +37,27 @@ use values::attributes::meter_of;
 use values::rhythm::Barline;
 use values::rhythm::Octave;
 
-// A longer part of the text is shown by its beginning.
+// A text has no more marks than bytes.
+pub(crate) const MARKS: usize = 65536;
+
+// The words of `ends`.
+pub(crate) const ENDS: usize = 2 * MARKS;
+
+// A longer part of the text is shown by so many characters.
 const SHOWN: usize = 32;
 
 // ---- the table of marks
 
-fn set_end(ends: &mut [usize], k: usize, end: usize) {
-    if k < ends.len() {
-        ends[k] = end;
+fn set_word(ends: &mut [usize], at: usize, word: usize) {
+    if at < ends.len() {
+        ends[at] = word;
+    }
+}
+
+fn set_end(ends: &mut [usize], k: usize, end: usize, characters: usize) {
+    if k < MARKS {
+        set_word(ends, k, end);
+        set_word(ends, MARKS + k, characters);
     }
 }
 
@@ -57,20 +72,29 @@ fn mark_end(data: &[u8], at: usize) -> usize
 // Cuts the data into marks; how many there are.
 pub(crate) fn cut(data: &[u8], ends: &mut [usize]) -> usize {
     let mut k = 0;
+    let mut characters = 0;
     let mut at = 0;
     while at < data.len() {
         let end = mark_end(data, at);
         k += 1;
-        set_end(ends, k, end);
+        characters += characters_between(data, at, end);
+        set_end(ends, k, end, characters);
         at = end;
     }
     k
 }
 
+fn word_of(ends: &[usize], at: usize) -> usize {
+    if at < ends.len() {
+        return ends[at];
+    }
+    0
+}
+
 // The offset behind a mark.
 pub(crate) fn end_of(ends: &[usize], k: usize) -> usize {
-    if k < ends.len() {
-        return ends[k];
+    if k < MARKS {
+        return word_of(ends, k);
     }
     0
 }
@@ -83,19 +107,44 @@ pub(crate) fn start_of(ends: &[usize], k: usize) -> usize {
     end_of(ends, k - 1)
 }
 
-// The place of a mark.
-pub(crate) fn place_of(ends: &[usize], k: usize) -> usize {
-    let start = start_of(ends, k);
-    if start < 65536 {
-        return start + 1;
+// How many characters stand up to the end of a mark.
+fn characters_to(ends: &[usize], k: usize) -> usize {
+    if k < MARKS {
+        return word_of(ends, MARKS + k);
     }
     0
+}
+
+// The place of a mark: one more than the characters before it.
+pub(crate) fn place_of(ends: &[usize], k: usize) -> usize {
+    if k == 0 {
+        return 0;
+    }
+    let before = characters_to(ends, k - 1);
+    if before < MARKS {
+        return before + 1;
+    }
+    0
+}
+
+// The first mark from `from` on, of so many, that has this place or a later one.
+pub(crate) fn mark_at(ends: &[usize], from: usize, marks: usize, place: usize) -> usize {
+    let mut k = from;
+    while k < marks {
+        if place <= place_of(ends, k) {
+            return k;
+        }
+        k += 1;
+    }
+    k
 }
 
 // What the mark between two offsets is.
 fn token_in(data: &[u8], start: usize, end: usize) -> Token {
     if start < end {
-        return decode(byte_at(data, start), end - start);
+        if end <= data.len() {
+            return decode(&data[start..end]);
+        }
     }
     Token::Unknown
 }
@@ -105,7 +154,20 @@ pub(crate) fn token_at(data: &[u8], ends: &[usize], k: usize) -> Token {
     token_in(data, start_of(ends, k), end_of(ends, k))
 }
 
-// The part of the text between two offsets, its beginning where it is long.
+// A part of the text, its beginning where it is long.
+fn say_beginning(row: &mut [u8; ROW], n: usize, part: &[u8]) -> usize
+    requires { ⌜ 0 < length (now part) ⌝ }
+{
+    let piece = piece_from(part, 0, SHOWN);
+    let end = piece.end;
+    let m = say(row, n, &part[0..end]);
+    if end < part.len() {
+        return say(row, m, b"...");
+    }
+    m
+}
+
+// The part of the text between two offsets.
 pub(crate) fn say_part(
     row: &mut [u8; ROW],
     n: usize,
@@ -113,12 +175,10 @@ pub(crate) fn say_part(
     start: usize,
     end: usize,
 ) -> usize {
-    if start <= end {
-        if end - start <= SHOWN {
-            return put_part(row, n, text, start, end);
+    if start < end {
+        if end <= text.len() {
+            return say_beginning(row, n, &text[start..end]);
         }
-        let m = put_part(row, n, text, start, start + SHOWN);
-        return say(row, m, b"...");
     }
     n
 }

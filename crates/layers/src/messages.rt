@@ -1,5 +1,6 @@
 // What is diagnosed or refused, in words.
 use super::cells::diagnostic_word;
+use super::characters::malformed_at;
 use super::marks::say_part;
 use super::row::ROW;
 use super::row::end_row;
@@ -78,7 +79,7 @@ fn say_reason(row: &mut [u8; ROW], n: usize, number: u32) -> usize {
     match number {
         1 => say(row, n, b"the text is longer than 65,535 bytes"),
         2 => say(row, n, b"fewer than 1,024 diagnostics can be stored"),
-        3 => say(row, n, b"a byte of the text is no ASCII character"),
+        3 => say(row, n, b"the text is not well-formed UTF-8"),
         4 => say(row, n, b"the text is blank"),
         5 => say(row, n, b"there are fields and none of them is @data"),
         6 => say(row, n, b"rests of whole bars (=) are not read"),
@@ -198,8 +199,17 @@ pub(crate) fn put_carets(
     m
 }
 
+// Where a text that is not well-formed goes wrong, in bytes from 0.
+fn say_offset(row: &mut [u8; ROW], n: usize, text: &[u8], number: u32) -> usize {
+    if number == 3 {
+        let m = say(row, n, b" at byte offset ");
+        return say_number(row, m, malformed_at(text) as u64);
+    }
+    n
+}
+
 // The refusal as a row.
-pub(crate) fn show_refusal(number: u32, place: u32) {
+pub(crate) fn show_refusal(text: &[u8], number: u32, place: u32) {
     let mut row = [0u8; ROW];
     let mut n = pad(&mut row, 0, MARGIN);
     n = say(&mut row, n, b"refused ");
@@ -210,5 +220,6 @@ pub(crate) fn show_refusal(number: u32, place: u32) {
     }
     n = say(&mut row, n, b": ");
     n = say_reason(&mut row, n, number);
+    n = say_offset(&mut row, n, text, number);
     end_row(&mut row, n);
 }

@@ -4,6 +4,8 @@ use super::cells::PITCH_OCTAVE;
 use super::cells::PITCH_STEP;
 use super::cells::note_word;
 use super::cells::pitch_word;
+use super::marks::mark_at;
+use super::marks::start_of;
 use super::row::ROW;
 use super::row::end_row;
 use super::row::number_in;
@@ -105,16 +107,12 @@ fn say_marks(row: &mut [u8; ROW], n: usize, first: usize, count: u32, marks: u32
     m
 }
 
-// Whether the mark at a place is an `f` or an `i`, which copy.
-fn copies(data: &[u8], place: u32) -> bool {
-    if place == 0 {
-        return false;
-    }
-    let b = byte_at(data, place as usize - 1);
-    (b == b'f') | (b == b'i')
+// Whether a mark with this first byte is an `f` or an `i`, which copy.
+fn copies(first: u8) -> bool {
+    (first == b'f') | (first == b'i')
 }
 
-fn say_notations(row: &mut [u8; ROW], n: usize, notes: &[i32], number: u32, data: &[u8]) -> usize {
+fn say_notations(row: &mut [u8; ROW], n: usize, notes: &[i32], number: u32, first: u8) -> usize {
     let mut m = say_ties(row, n, n, note_word(notes, number, TIES));
     m = say_beam(row, m, n, note_word(notes, number, BEAM));
     m = say_tuplet(
@@ -131,7 +129,7 @@ fn say_notations(row: &mut [u8; ROW], n: usize, notes: &[i32], number: u32, data
         note_word(notes, number, MARK_COUNT),
         note_word(notes, number, MARKS),
     );
-    if copies(data, note_word(notes, number, PLACE)) {
+    if copies(first) {
         return say_also(row, m, n, b"copy");
     }
     m
@@ -139,7 +137,8 @@ fn say_notations(row: &mut [u8; ROW], n: usize, notes: &[i32], number: u32, data
 
 // ---- rows
 
-fn show_note(notes: &[i32], number: u32, data: &[u8]) {
+// A row for a record; its mark has this first byte.
+fn show_note(notes: &[i32], number: u32, first: u8) {
     let mut row = [0u8; ROW];
     let mut n = number_in(&mut row, 0, number as u64 + 1, 6);
     n = number_in(&mut row, n, note_word(notes, number, PLACE) as u64, 8);
@@ -155,17 +154,19 @@ fn show_note(notes: &[i32], number: u32, data: &[u8]) {
     n = pad(&mut row, n, 37);
     n = say_pitches(&mut row, n, notes, number);
     n = pad(&mut row, n, 53);
-    n = say_notations(&mut row, n, notes, number, data);
+    n = say_notations(&mut row, n, notes, number, first);
     end_row(&mut row, n);
 }
 
-// The third layer.
-pub(crate) fn show_notes(notes: &[i32], count: u32, data: &[u8]) {
+// The third layer. Records and marks stand in the order of their places.
+pub(crate) fn show_notes(notes: &[i32], count: u32, data: &[u8], ends: &[usize], marks: usize) {
     say_heading(b"3. The notes");
     say_row(b"   no.   place  kind     length      pitches         notations");
+    let mut k = 1;
     let mut number: u32 = 0;
     while number < count {
-        show_note(notes, number, data);
+        k = mark_at(ends, k, marks, note_word(notes, number, PLACE) as usize);
+        show_note(notes, number, byte_at(data, start_of(ends, k)));
         number += 1;
     }
 }

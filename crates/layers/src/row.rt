@@ -1,20 +1,16 @@
 // A row of the output: bytes in a lent array, and how many stand there. It is written when it ends, and when it is full, so nothing is cut.
+// A column is a character.
+ghost use Prim.Native.Nat.{_<_};
+ghost use lib.ListN.{length};
+use super::characters::character_end;
+use character::characters_in;
+use character::is_blank;
+use character::is_formed;
 use libc::STDOUT_FILENO;
 use show::byte_at;
-use text::is_blank;
 
-pub(crate) const ROW: usize = 256;
-
-// Blanks are shown as a space, other bytes that don't print as `?`.
-fn shown(b: u8) -> u8 {
-    if is_blank(b) {
-        return b' ';
-    }
-    if (b < 32) | (126 < b) {
-        return b'?';
-    }
-    b
-}
+// Room for a margin and 70 characters of four bytes.
+pub(crate) const ROW: usize = 320;
 
 // Writes the first `n` bytes of a row.
 fn write_out(row: &[u8], n: usize) {
@@ -33,25 +29,47 @@ pub(crate) fn put(row: &mut [u8; ROW], n: usize, b: u8) -> usize {
     1
 }
 
-// The part of a text between two offsets.
-pub(crate) fn put_part(
-    row: &mut [u8; ROW],
-    n: usize,
-    text: &[u8],
-    start: usize,
-    end: usize,
-) -> usize {
+fn put_bytes(row: &mut [u8; ROW], n: usize, bytes: &[u8]) -> usize {
     let mut m = n;
-    let mut i = start;
-    while i < end {
-        m = put(row, m, shown(byte_at(text, i)));
+    let mut i = 0;
+    while i < bytes.len() {
+        m = put(row, m, bytes[i]);
         i += 1;
     }
     m
 }
 
+// Whether the character is U+0000 to U+001F or U+007F to U+009F.
+fn is_control(character: &[u8]) -> bool {
+    let b = byte_at(character, 0);
+    (b < 32) | (b == 127) | ((b == 194) & (byte_at(character, 1) < 160))
+}
+
+// A blank is shown as a space; a control character, and a byte that is part of none, as `?`.
+fn put_character(row: &mut [u8; ROW], n: usize, character: &[u8]) -> usize
+    requires { ⌜ 0 < length (now character) ⌝ }
+{
+    if !is_formed(character) {
+        return put(row, n, b'?');
+    }
+    if is_blank(character) {
+        return put(row, n, b' ');
+    }
+    if is_control(character) {
+        return put(row, n, b'?');
+    }
+    put_bytes(row, n, character)
+}
+
 pub(crate) fn say(row: &mut [u8; ROW], n: usize, words: &[u8]) -> usize {
-    put_part(row, n, words, 0, words.len())
+    let mut m = n;
+    let mut i = 0;
+    while i < words.len() {
+        let end = character_end(words, i);
+        m = put_character(row, m, &words[i..end]);
+        i = end;
+    }
+    m
 }
 
 // One byte for each number from `from` on, below `to`.
@@ -65,9 +83,18 @@ pub(crate) fn fill(row: &mut [u8; ROW], n: usize, b: u8, from: usize, to: usize)
     m
 }
 
+// How many columns the first `n` bytes of a row take.
+fn columns_in(row: &[u8], n: usize) -> usize {
+    if n <= row.len() {
+        return characters_in(&row[0..n]);
+    }
+    n
+}
+
 // Spaces up to a column.
 pub(crate) fn pad(row: &mut [u8; ROW], n: usize, column: usize) -> usize {
-    fill(row, n, b' ', n, column)
+    let columns = columns_in(row, n);
+    fill(row, n, b' ', columns, column)
 }
 
 // A number in at least so many columns.

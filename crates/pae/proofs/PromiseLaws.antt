@@ -8,11 +8,11 @@ use mathlib.Core.Option.{Option, none, some}
 use mathlib.Core.List.{List, [], _∷_, _++_}
 use lib.IntN.{ℤ, pos}
 use lib.ListN.{length, take, drop, getD, length-append, replicate-append-replicate}
-use lib.Dec.{leb, ltb}
+use lib.Dec.{ltb}
 use lib.Seq.{take-add, take-at}
 use borrow.Author.Tests.{ltb-false}
 use Rattle.rules.specs.Limits.{textLimit, diagnosticLimit, diagnosticSize}
-use Rattle.rules.specs.Text.{isBlank, every, has}
+use Rattle.rules.specs.Characters.{isFormed, allBlank}
 use Rattle.rules.specs.Fields.{fieldsOf, dataOf}
 use Rattle.rules.specs.Records as rules
 use Rattle.rules.specs.Records.{_or_, isSome, given}
@@ -70,7 +70,7 @@ words-records ws (suc c) h =
 -- an accepted text has 1,024 cells or more
 enough-lent : (text : List ℕ) (lent : LentRecords) → refusalOf text lent ≡ none → diagnosticLimit ≤ lent .diagnostics
 unfolding refusalOf
-enough-lent text lent e = ltb-false (lent .diagnostics) diagnosticLimit (go (ltb textLimit (length text)) (ltb (lent .diagnostics) diagnosticLimit) (has (leb 128) text) (every isBlank text) (not (isSome (fieldsOf text .dataValue))) (dataRefusal lent (fieldsOf text .attributes) (dataOf text)) e)
+enough-lent text lent e = ltb-false (lent .diagnostics) diagnosticLimit (go (ltb textLimit (length text)) (ltb (lent .diagnostics) diagnosticLimit) (not (isFormed text)) (allBlank text) (not (isSome (fieldsOf text .dataValue))) (dataRefusal lent (fieldsOf text .attributes) (dataOf text)) e)
   where
     go : (a b c d f : Bool) (rest : Option Refusal) → given (firstFailing ((1, a) ∷ (2, b) ∷ (3, c) ∷ (4, d) ∷ (5, f) ∷ [])) none (λ n. some (refusal n 0)) or rest ≡ none → b ≡ false
     go true b c d f rest z = let h : _≡_ {A = ℕ} 0 1 = cc in absurd (omega arith)

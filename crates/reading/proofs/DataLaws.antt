@@ -38,6 +38,7 @@ use Rattle.storing.proofs.StepLaws.{fresh-stored, fresh-figured}
 use Rattle.checks.specs.declared.Room.{Room}
 use Rattle.checks.specs.Checks.{checkOf}
 use Rattle.diagnose.specs.Found.{countAfterAll, cellsAfterAll}
+use Rattle.remarks.specs.Remarks.{placeAt, valueFrom}
 use Rattle.remarks.proofs.RemarkLaws.{openGroup}
 use Rattle.reading.specs.Walk.{Hand, armed, withDiagnostics, closingFor, remarked}
 use Rattle.reading.specs.Data.{attributesIn, begun, items, Begins, DataRead}
@@ -47,11 +48,12 @@ module _ (data′ : List ℕ) (start : ℕ) (n : ℕ) (scratch₀ : List ℤ) (r
   -- a fresh reading of cleared cells
   pub begins : {a : Attributes} {notes bars held : List ℤ} {st : Pae} {table : Table} {k : Keeping} {cursor : Cursor} (kept : List ℕ)
       → Begins data′ start a notes bars held room → st ≡ begun a n → table ≡ cleared → length kept ≡ keptLimit → k ≡ quarterPattern kept → cursor ≡ firstOf (k .pattern)
-      → Holds data′ start (attributesIn (st .attributes)) n scratch₀ (length notes) (length bars) (length held) room 0 0 st table k cursor notes bars held scratch₀
+      → Holds data′ start (attributesIn (st .attributes)) n scratch₀ (length notes) (length bars) (length held) room 0 0 0 st table k cursor notes bars held scratch₀
   unfolding tokensRefusal stateAfter dataDiagnosed
   begins {a} {notes} {bars} {held} kept b e clear full quarter first = rw (e, clear, first) (record {
     before = [];
     within = omega arith;
+    tailed = omega arith;
     reads = let z : start + 0 ≡ start = omega arith in ap (λ (o : ℕ). itemsAfter 0 1 o data′ []) (sym z);
     clean = refl;
     related = record {
@@ -73,8 +75,8 @@ module _ (data′ : List ℕ) (start : ℕ) (n : ℕ) (scratch₀ : List ℤ) (r
     scratchLength = refl;
   })
 
-  module _ (a : Attributes) {size barsSize figureSize at : ℕ} {st : Pae} {table : Table} {pattern : Keeping} {cursor : Cursor} {notes bars held scratch : List ℤ}
-      (w : Holds data′ start (attributesIn a) n scratch₀ size barsSize figureSize room 0 at st table pattern cursor notes bars held scratch) where
+  module _ (a : Attributes) {size barsSize figureSize at tails : ℕ} {st : Pae} {table : Table} {pattern : Keeping} {cursor : Cursor} {notes bars held scratch : List ℤ}
+      (w : Holds data′ start (attributesIn a) n scratch₀ size barsSize figureSize room 0 at tails st table pattern cursor notes bars held scratch) where
     -- the end of the data
     pub finishes : length data′ ≤ at → DataRead data′ start a n scratch₀ size barsSize room (record { number = 0; place = 0; st = st }) notes bars scratch
     finishes h = record {
@@ -92,13 +94,13 @@ module _ (data′ : List ℕ) (start : ℕ) (n : ℕ) (scratch₀ : List ℤ) (r
         is : items data′ start a n scratch₀ size barsSize ≡ w .before
         is = ended data′ start (attributesIn a) n scratch₀ size barsSize figureSize room 0 w h
 
-    module _ (inside : at < length data′) (end : ℕ) (ends : end ≡ at + tokenSize (drop at data′)) (token : Token) (decoded : Decoded (getD data′ at 0) (end - at) token)
+    module _ (inside : at < length data′) (end : ℕ) (ends : end ≡ at + tokenSize (drop at data′)) (token : Token) (decoded : Decoded (getD data′ at 0) (valueFrom data′ at end) token)
         (joined : Bool) (joins : joinsOf (st .voice) (st .counts) notes ≡ joined) where
       -- a check fails
-      pub stops-here : (number : ℕ) → number ≡ checkOf token st joined notes room → (number ≡ 0 → ⊥) → DataRead data′ start a n scratch₀ size barsSize room (record { number = number; place = at + 1; st = st }) notes bars scratch
+      pub stops-here : (number : ℕ) → number ≡ checkOf token st joined notes room → (number ≡ 0 → ⊥) → DataRead data′ start a n scratch₀ size barsSize room (record { number = number; place = placeAt at tails; st = st }) notes bars scratch
       stops-here number e z = record {
         stops = refuses data′ start (attributesIn a) n scratch₀ size barsSize figureSize room 0 w inside end ends token decoded joined joins number e z
-            ∙ sym (ap (λ (q : Bool). cond q none (some (refusal number (at + 1)))) (ne-eqb number 0 z));
+            ∙ sym (ap (λ (q : Bool). cond q none (some (refusal number (placeAt at tails)))) (ne-eqb number 0 z));
         finished = λ e. absurd (z e);
       }
 
@@ -108,19 +110,19 @@ module _ (data′ : List ℕ) (start : ℕ) (n : ℕ) (scratch₀ : List ℤ) (r
 
       -- what its arm makes of what the walk holds
       abbrev made : Hand
-      made = armed data′ at end joined (record { st = st; table = table; pattern = pattern; cursor = cursor; notes = notes; bars = bars; figure = held }) token
+      made = armed data′ at end joined (record { tails = tails; st = st; table = table; pattern = pattern; cursor = cursor; notes = notes; bars = bars; figure = held }) token
 
       -- every check passes
       module _ (passes : checkOf token st joined notes room ≡ 0) (lends : room .notes * noteSize ≤ size) (lendsBars : room .bars * barSize ≤ barsSize) where
         abbrev found : List (List ℤ)
-        found = remarked token st notes data′ start at end
+        found = remarked token st notes data′ start tails at end
 
-        pub advances : {st′ : Pae} {count : ℕ} {table′ : Table} {k : Keeping} {cursor′ : Cursor} {notes′ bars′ held′ scratch′ : List ℤ}
-            → count ≡ countAfterAll (st .diagnostics) found → scratch′ ≡ cellsAfterAll scratch (st .diagnostics) found
+        pub advances : {tails′ : ℕ} {st′ : Pae} {count : ℕ} {table′ : Table} {k : Keeping} {cursor′ : Cursor} {notes′ bars′ held′ scratch′ : List ℤ}
+            → tails′ ≡ made .tails → count ≡ countAfterAll (st .diagnostics) found → scratch′ ≡ cellsAfterAll scratch (st .diagnostics) found
             → table′ ≡ made .table → st′ ≡ withDiagnostics count (made .st) → k ≡ made .pattern → cursor′ ≡ made .cursor → notes′ ≡ made .notes → bars′ ≡ made .bars → held′ ≡ made .figure
             → length bars′ ≡ length bars → length held′ ≡ length held → length scratch′ ≡ length scratch
-            → Holds data′ start (attributesIn a) n scratch₀ size barsSize figureSize room 0 end st′ table′ k cursor′ notes′ bars′ held′ scratch′
+            → Holds data′ start (attributesIn a) n scratch₀ size barsSize figureSize room 0 end tails′ st′ table′ k cursor′ notes′ bars′ held′ scratch′
         unfolding remarked
-        advances e1 e2 e3 e4 e5 e6 e7 e8 e9 l1 l2 l3 =
-            rw (e4, e1, e2, e3, e5, e6, e7, e8, e9) (goes-on data′ start (attributesIn a) n scratch₀ size barsSize figureSize room 0 w inside end ends token decoded joined joins passes lends lendsBars (closingFor token st notes) closes
+        advances e0 e1 e2 e3 e4 e5 e6 e7 e8 e9 l1 l2 l3 =
+            rw (e0, e4, e1, e2, e3, e5, e6, e7, e8, e9) (goes-on data′ start (attributesIn a) n scratch₀ size barsSize figureSize room 0 w inside end ends token decoded joined joins passes lends lendsBars (closingFor token st notes) closes
             (ap length (sym e8) ∙ l1) (ap length (sym e9) ∙ l2) (ap length (sym e2) ∙ l3))

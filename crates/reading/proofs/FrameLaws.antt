@@ -1,14 +1,14 @@
 -- The arms of the walk for the first six kinds change no note record, and of the octave, the pattern and the waiting accidental at most their own. Assumes nothing.
-use Prim.Native.Nat.{ℕ, _+_, _-_, _<_}
+use Prim.Native.Nat.{ℕ, _+_}
 use Prim.Native.Char.{code}
-use native.Mathlib.Omega.{arith}
 use mathlib.Core.Path.{_≡_, refl, ap, subst, _∙_}
 use mathlib.Core.Bool.{Bool}
 use mathlib.Core.Option.{Option, none, some}
-use mathlib.Core.List.{List}
-use lib.ListN.{length, replicate, length-replicate}
+use mathlib.Core.List.{List, _∷_}
+use lib.ListN.{length}
 use lib.Dec.{eqb}
-use Rattle.rules.specs.Text.{isBlank, isDigit, isNoteLetter}
+use Rattle.rules.specs.Text.{isDigit, isNoteLetter}
+use Rattle.rules.specs.Characters.{isBlank}
 use Rattle.rules.specs.Tokens as rules
 use Rattle.rules.specs.Frame.{FirstKind, clefKind, keyKind, meterKind, octaveKind, durationKind, accidentalKind, kindOfByte}
 use Rattle.theorems.proofs.Frame.{both, own}
@@ -91,13 +91,11 @@ byte-kind b value =
     (cond-ind Other (eqb b (code "+")) refl
     (cond-ind Other (eqb b (code "t")) refl
     (cond-ind Other (eqb b (code "=")) refl
-    (cond-ind Other (isBlank b) refl refl))))))))))))))))))))))))))))
+    (cond-ind Other (isBlank (b ∷ value)) refl refl))))))))))))))))))))))))))))
 
 -- what is decoded has the kind of its first byte
-decoded-kind : (b size : ℕ) (token : Token) → Decoded b size token → 0 < size → kindOfArm token ≡ kindOfByte b
-decoded-kind b size token d l =
-    let value : List ℕ = replicate (size - 1) 0 in
-    arm-kind b value token ∙ ap kindOf (d .0 value (omega (arith, length-replicate {A = ℕ} (size - 1) 0))) ∙ byte-kind b value
+decoded-kind : (b : ℕ) (value : List ℕ) (token : Token) → Decoded b value token → kindOfArm token ≡ kindOfByte b
+decoded-kind b value token d = arm-kind b value token ∙ ap kindOf (d .0) ∙ byte-kind b value
 
 -- ---- what an arm leaves alone
 
@@ -130,5 +128,5 @@ module _ (data′ : List ℕ) (at end : ℕ) (joined : Bool) (h : Hand) where
   by-arm t.Unknown = tt
 
   -- of every token of the six kinds that the program decodes, in every state
-  pub arm-frame : (kind : FirstKind) (b size : ℕ) (token : Token) → Decoded b size token → 0 < size → kindOfByte b ≡ some kind → ArmFramed kind h (armed data′ at end joined h token)
-  arm-frame kind b size token d l e = subst (λ (k : Option FirstKind). FramedBy k token) (decoded-kind b size token d l ∙ e) (by-arm token)
+  pub arm-frame : (kind : FirstKind) (b : ℕ) (value : List ℕ) (token : Token) → Decoded b value token → kindOfByte b ≡ some kind → ArmFramed kind h (armed data′ at end joined h token)
+  arm-frame kind b value token d e = subst (λ (k : Option FirstKind). FramedBy k token) (decoded-kind b value token d ∙ e) (by-arm token)

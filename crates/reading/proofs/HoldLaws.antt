@@ -6,13 +6,14 @@ use mathlib.Core.Bool.{Bool, true, false, cond}
 use mathlib.Core.Option.{Option, none, some}
 use mathlib.Core.List.{List, [], _∷_, _++_, map, map-append}
 use lib.IntN.{ℤ}
-use lib.ListN.{length, getD, take, drop, length-drop}
-use lib.Seq.{slice, length-take-le}
+use lib.ListN.{length, getD, take, drop}
+use lib.Seq.{slice}
 use Rattle.values.proofs.SliceLaws.{slice-part, slice-more}
 use lib.Dec.{eqb, leb}
 use borrow.Author.Tests.{ne-eqb, leb-true}
 use Rattle.text.proofs.BoolLaws.{both}
 use Rattle.rules.specs.Limits.{noteLimit, noteSize, barSize, textLimit}
+use Rattle.rules.specs.Characters.{begun, charactersIn}
 use Rattle.rules.specs.Cut.{tokenSize}
 use Rattle.rules.specs.Tokens.{Item, tokenOf, itemAt, itemsAfter}
 use Rattle.rules.specs.Records.{_or_, given, isEmpty, Diagnostic}
@@ -48,7 +49,7 @@ use Rattle.checks.proofs.TestLaws.{joins-some}
 use Rattle.checks.proofs.CheckLaws as checks
 use Rattle.checks.proofs.CheckLaws.{lentIn, check-agrees}
 use Rattle.diagnose.specs.Found.{countAfterAll, cellsAfterAll}
-use Rattle.remarks.specs.Remarks.{valueFrom, itemFrom, tokenFound}
+use Rattle.remarks.specs.Remarks.{placeAt, valueFrom, itemFrom, tokenFound}
 use Rattle.remarks.proofs.RemarkLaws.{openGroup, remarks-agree}
 use Rattle.records.specs.Diagnostics.{countAfter, diagnosed}
 use Rattle.reading.specs.Walk.{Hand, armed, withDiagnostics}
@@ -59,6 +60,7 @@ use Rattle.reading.specs.Ready.{Within, HasPlace, Blank, Asked, Ready}
 use Rattle.reading.proofs.TokenLaws as one
 use Rattle.reading.proofs.TokenLaws.{Related, token-related}
 use Rattle.reading.proofs.TakingLaws.{rhythm-agrees, taken-agrees}
+use Rattle.reading.proofs.PlaceLaws.{GoesOn, next-place}
 
 -- ---- bounds that a token keeps
 
@@ -129,16 +131,23 @@ cells-all (x ∷ xs) ys l n = λ i. diagnosed (cells-all xs ys l n i) (count-all
 
 -- ---- the data
 
+-- a token's bytes are its first byte and what follows
+pub token-bytes : (data′ : List ℕ) (at end : ℕ) → at < length data′ → at < end → take (end - at) (drop at data′) ≡ getD data′ at 0 ∷ valueFrom data′ at end
+token-bytes data′ at end inside further =
+    let z : end - at ≡ suc (end - (at + 1)) = omega arith in
+    ap (take (end - at)) (next-element data′ at inside) ∙ ap (λ (n : ℕ). take n (getD data′ at 0 ∷ drop (at + 1) data′)) z
+
 -- count₀, scratch₀: the diagnostics that were stored before the data
 module _ (data′ : List ℕ) (start : ℕ) (k : rules.Attributes) (count₀ : ℕ) (scratch₀ : List ℤ) (size barsSize figureSize : ℕ) (room : Room) (cells : ℕ) where
   abbrev lent : LentRecords
   lent = lentIn room cells
 
-  -- before the offset `at` of the data, with the tokens `before` it read and none refused
-  pub record Holds (at : ℕ) (st : Pae) (table : Table) (pattern : Keeping) (cursor : Cursor) (notes bars held scratch : List ℤ) : Type 0 where
+  -- before the offset `at` of the data, with `tails` bytes before it that continue a character, the tokens `before` it read and none refused
+  pub record Holds (at tails : ℕ) (st : Pae) (table : Table) (pattern : Keeping) (cursor : Cursor) (notes bars held scratch : List ℤ) : Type 0 where
     pub before : List Item
     pub within : at ≤ length data′
-    pub reads : itemsAfter 0 1 start data′ [] ≡ itemsAfter 0 (at + 1) (start + at) (drop at data′) before
+    pub tailed : tails ≤ at
+    pub reads : itemsAfter 0 1 start data′ [] ≡ itemsAfter 0 (placeAt at tails) (start + at) (drop at data′) before
     pub clean : tokensRefusal lent k before ≡ none
     pub related : Related size barsSize (stateAfter k before) st table notes bars held
     pub rhythm : Standing data′ pattern cursor (stateAfter k before .pattern) (stateAfter k before .valuesTaken)
@@ -155,22 +164,26 @@ module _ (data′ : List ℕ) (start : ℕ) (k : rules.Attributes) (count₀ : �
   unfolding itemsAfter tokensRefusal
   refusal-later r j p o [] e h = h
   refusal-later r zero p o (x ∷ xs) e h = refusal-later r (tokenSize (x ∷ xs) - 1) (p + 1) (o + 1) xs (itemAt p o x xs ∷ e) (ap (λ (q : Option Refusal). q or given (tokenRefusal lent (itemAt p o x xs .token) (stateAfter k e)) none (λ n. some (refusal n (itemAt p o x xs .place)))) h)
-  refusal-later r (suc j) p o (x ∷ xs) e h = refusal-later r j (p + 1) (o + 1) xs e h
+  refusal-later r (suc j) p o (x ∷ xs) e h = refusal-later r j (p + begun x) (o + 1) xs e h
 
-  module _ {at : ℕ} {st : Pae} {table : Table} {pattern : Keeping} {cursor : Cursor} {notes bars held scratch : List ℤ} (w : Holds at st table pattern cursor notes bars held scratch) where
+  module _ {at tails : ℕ} {st : Pae} {table : Table} {pattern : Keeping} {cursor : Cursor} {notes bars held scratch : List ℤ} (w : Holds at tails st table pattern cursor notes bars held scratch) where
     abbrev pub s : rules.State
     s = stateAfter k (w .before)
 
+    -- the place of the token here
+    abbrev here : ℕ
+    here = placeAt at tails
+
     -- ---- it goes on
 
-    module _ (inside : at < length data′) (end : ℕ) (ends : end ≡ at + tokenSize (drop at data′)) (token : Token) (decoded : Decoded (getD data′ at 0) (end - at) token)
+    module _ (inside : at < length data′) (end : ℕ) (ends : end ≡ at + tokenSize (drop at data′)) (token : Token) (decoded : Decoded (getD data′ at 0) (valueFrom data′ at end) token)
         (joined : Bool) (joins : joinsOf (st .voice) (st .counts) notes ≡ joined) where
       abbrev item : Item
-      item = itemIn (at + 1) (start + at) (end - at) (getD data′ at 0) (valueFrom data′ at end) token
+      item = itemIn here (start + at) (end - at) (getD data′ at 0) (valueFrom data′ at end) token
 
       -- what its arm makes of what the walk holds
       abbrev made : Hand
-      made = armed data′ at end joined (record { st = st; table = table; pattern = pattern; cursor = cursor; notes = notes; bars = bars; figure = held }) token
+      made = armed data′ at end joined (record { tails = tails; st = st; table = table; pattern = pattern; cursor = cursor; notes = notes; bars = bars; figure = held }) token
 
       pub further : at < end
       further = omega (arith, token-some data′ at inside)
@@ -181,19 +194,22 @@ module _ (data′ : List ℕ) (start : ℕ) (k : rules.Attributes) (count₀ : �
       first : drop at data′ ≡ getD data′ at 0 ∷ drop (at + 1) data′
       first = next-element data′ at inside
 
-      item-is : tokenAt data′ at (at + 1) (start + at) ≡ item
+      item-is : tokenAt data′ at here (start + at) ≡ item
       item-is =
           let z : end - at ≡ tokenSize (getD data′ at 0 ∷ drop (at + 1) data′) = omega (arith, ap tokenSize first) in
-          let l : end - at ≤ 1 + length (drop (at + 1) data′) = omega (arith, not-beyond, length-drop (at + 1) data′) in
           let y : end - at - 1 ≡ end - (at + 1) = omega arith in
-          item-decoded (at + 1) (start + at) (getD data′ at 0) (drop (at + 1) data′) (end - at) token z (omega (arith, further)) l decoded
-          ∙ ap (λ (n : ℕ). itemIn (at + 1) (start + at) (end - at) (getD data′ at 0) (take n (drop (at + 1) data′)) token) y
+          item-decoded here (start + at) (getD data′ at 0) (drop (at + 1) data′) (end - at) token z (subst (λ (n : ℕ). Decoded (getD data′ at 0) (take n (drop (at + 1) data′)) token) (sym y) decoded)
+          ∙ ap (λ (n : ℕ). itemIn here (start + at) (end - at) (getD data′ at 0) (take n (drop (at + 1) data′)) token) y
 
-      reads-on : itemsAfter 0 1 start data′ [] ≡ itemsAfter 0 (end + 1) (start + end) (drop end data′) (item ∷ w .before)
+      placed : GoesOn data′ at end tails inside further not-beyond ends (w .tailed) (made .tails)
+      placed = next-place data′ at end tails inside further not-beyond ends (w .tailed) token decoded
+
+      reads-on : itemsAfter 0 1 start data′ [] ≡ itemsAfter 0 (placeAt end (made .tails)) (start + end) (drop end data′) (item ∷ w .before)
       reads-on =
-          let z : at + 1 + tokenSize (drop at data′) ≡ end + 1 = omega arith in
+          let x : tokenSize (drop at data′) - 1 ≡ end - (at + 1) = omega arith in
           let y : start + at + tokenSize (drop at data′) ≡ start + end = omega arith in
-          w .reads ∙ items-step data′ at inside (at + 1) (start + at) (w .before) ∙ (λ i. itemsAfter 0 (z i) (y i) (drop (sym ends i) data′) (item-is i ∷ w .before))
+          w .reads ∙ items-step data′ at inside here (start + at) (w .before)
+          ∙ (λ i. itemsAfter 0 ((ap (λ (n : ℕ). here + 1 + charactersIn (take n (drop (at + 1) data′))) x ∙ placed .place) i) (y i) (drop (sym ends i) data′) (item-is i ∷ w .before))
 
       rules-join : rules.joins s ≡ joined
       rules-join = sym (joins-agree (w .related .voice) (w .related .stored)) ∙ joins
@@ -201,16 +217,16 @@ module _ (data′ : List ℕ) (start : ℕ) (k : rules.Attributes) (count₀ : �
       checked : tokenRefusal lent (item .token) s ≡ numberIn (checkOf token st joined notes room)
       checked = check-agrees st room cells (w .related .stored) (w .related .groups) (sym (figure-count (w .related .figured))) (sym rules-join) (getD data′ at 0) (valueFrom data′ at end) token
 
-      refused-here : tokensRefusal lent k (item ∷ w .before) ≡ given (numberIn (checkOf token st joined notes room)) none (λ n. some (refusal n (at + 1)))
+      refused-here : tokensRefusal lent k (item ∷ w .before) ≡ given (numberIn (checkOf token st joined notes room)) none (λ n. some (refusal n here))
       unfolding tokensRefusal
-      refused-here = λ i. w .clean i or given (checked i) none (λ n. some (refusal n (at + 1)))
+      refused-here = λ i. w .clean i or given (checked i) none (λ n. some (refusal n here))
 
       -- ---- it stops
 
-      pub refuses : (n : ℕ) → n ≡ checkOf token st joined notes room → (n ≡ 0 → ⊥) → tokensRefusal lent k (itemsAfter 0 1 start data′ []) ≡ some (refusal n (at + 1))
+      pub refuses : (n : ℕ) → n ≡ checkOf token st joined notes room → (n ≡ 0 → ⊥) → tokensRefusal lent k (itemsAfter 0 1 start data′ []) ≡ some (refusal n here)
       refuses n e z =
-          ap (tokensRefusal lent k) reads-on ∙ refusal-later (refusal n (at + 1)) 0 (end + 1) (start + end) (drop end data′) (item ∷ w .before)
-          (refused-here ∙ ap (λ (m : ℕ). given (numberIn m) none (λ j. some (refusal j (at + 1)))) (sym e) ∙ ap (λ (q : Bool). given (cond q none (some n)) none (λ j. some (refusal j (at + 1)))) (ne-eqb n 0 z))
+          ap (tokensRefusal lent k) reads-on ∙ refusal-later (refusal n here) 0 (placeAt end (made .tails)) (start + end) (drop end data′) (item ∷ w .before)
+          (refused-here ∙ ap (λ (m : ℕ). given (numberIn m) none (λ j. some (refusal j here))) (sym e) ∙ ap (λ (q : Bool). given (cond q none (some n)) none (λ j. some (refusal j here))) (ne-eqb n 0 z))
 
       -- ---- it goes on
 
@@ -239,12 +255,10 @@ module _ (data′ : List ℕ) (start : ℕ) (k : rules.Attributes) (count₀ : �
         roomy t.Unknown e = tt
 
         clean-on : tokensRefusal lent k (item ∷ w .before) ≡ none
-        clean-on = refused-here ∙ ap (λ (n : ℕ). given (numberIn n) none (λ j. some (refusal j (at + 1)))) passes
+        clean-on = refused-here ∙ ap (λ (n : ℕ). given (numberIn n) none (λ j. some (refusal j here))) passes
 
         token-is : tokenIn (getD data′ at 0) (valueFrom data′ at end) token ≡ tokenOf (getD data′ at 0) (valueFrom data′ at end)
-        token-is =
-            let l : end - (at + 1) ≤ length (drop (at + 1) data′) = omega (arith, not-beyond, length-drop (at + 1) data′) in
-            decoded .0 (valueFrom data′ at end) (omega (arith, further, length-take-le (end - (at + 1)) (drop (at + 1) data′) l))
+        token-is = decoded .0
 
         bytes-are : slice at end data′ ≡ getD data′ at 0 ∷ valueFrom data′ at end
         bytes-are = slice-more at end data′ 0 further not-beyond ∙ ap (λ (l : List ℕ). getD data′ at 0 ∷ l) (slice-part (at + 1) end data′)
@@ -312,23 +326,24 @@ module _ (data′ : List ℕ) (start : ℕ) (k : rules.Attributes) (count₀ : �
         module _ (closing : rules.Closing) (closes : token ≡ t.Marking m.GroupClose → st .groups .paren .noted ≡ true → closing ≡ rules.closingOf (openGroup (st .groups)) s) where
           -- the words of what the token diagnoses
           abbrev pub found : List (List ℤ)
-          found = map diagnosticWords (tokenFound token (valueFrom data′ at end) st (endsOf (st .counts) notes) closing (itemFrom data′ start at end token))
+          found = map diagnosticWords (tokenFound token (valueFrom data′ at end) st (endsOf (st .counts) notes) closing (itemFrom data′ start here at end token))
 
-          found-is : tokenFound token (valueFrom data′ at end) st (endsOf (st .counts) notes) closing (itemFrom data′ start at end token) ≡ tokenDiagnosed item s (item .token)
-          found-is = remarks-agree st s (endsOf (st .counts) notes) closing (valueFrom data′ at end) (itemFrom data′ start at end token) (w .related .voice) (w .related .groups)
+          found-is : tokenFound token (valueFrom data′ at end) st (endsOf (st .counts) notes) closing (itemFrom data′ start here at end token) ≡ tokenDiagnosed item s (item .token)
+          found-is = remarks-agree st s (endsOf (st .counts) notes) closing (valueFrom data′ at end) (itemFrom data′ start here at end token) (w .related .voice) (w .related .groups)
               (content (s .openBar) (w .related .stored)) (length-open (w .related .stored)) (ap (λ (n : ℕ). eqb n 0) (figure-count (w .related .figured)) ∙ no-elements (s .figure))
               (ap (λ (n : ℕ). eqb n 0) (w .related .stored .bars) ∙ no-elements (s .bars)) (ends-agree (s .openBar) (w .related .stored)) (getD data′ at 0) token closes
 
           pub goes-on : length (made .bars) ≡ length bars → length (made .figure) ≡ length held → length (cellsAfterAll scratch (st .diagnostics) found) ≡ length scratch
-              → Holds end (withDiagnostics (countAfterAll (st .diagnostics) found) (made .st)) (made .table) (made .pattern) (made .cursor) (made .notes) (made .bars) (made .figure) (cellsAfterAll scratch (st .diagnostics) found)
+              → Holds end (made .tails) (withDiagnostics (countAfterAll (st .diagnostics) found) (made .st)) (made .table) (made .pattern) (made .cursor) (made .notes) (made .bars) (made .figure) (cellsAfterAll scratch (st .diagnostics) found)
           unfolding stateAfter dataDiagnosed stepped
           goes-on lb lf ls = record {
             before = item ∷ w .before;
             within = not-beyond;
+            tailed = placed .tailed;
             reads = reads-on;
             clean = clean-on;
             related = related-on;
-            rhythm = rhythm-agrees (at + 1) (start + at) (end - at) (getD data′ at 0) (valueFrom data′ at end) data′ s st (w .rhythm) (w .related .voice) joined rules-join at end not-beyond bytes-are token token-is;
+            rhythm = rhythm-agrees here (start + at) (end - at) (getD data′ at 0) (valueFrom data′ at end) data′ s st (w .rhythm) (w .related .voice) joined rules-join at end not-beyond bytes-are token token-is;
             counted = ap (λ (n : ℕ). countAfterAll n found) (w .counted) ∙ sym (count-all found (map diagnosticWords (dataDiagnosed k (w .before))) count₀) ∙ ap (countAfterAll count₀) found-on;
             written = (λ i. cellsAfterAll (w .written i) (w .counted i) found) ∙ sym (cells-all found (map diagnosticWords (dataDiagnosed k (w .before))) scratch₀ count₀) ∙ ap (cellsAfterAll scratch₀ count₀) found-on;
             few = omega (arith, bars-more token joined (st .figure) (st .counts), w .few, further);
@@ -338,11 +353,11 @@ module _ (data′ : List ℕ) (start : ℕ) (k : rules.Attributes) (count₀ : �
             scratchLength = ls ∙ w .scratchLength;
           }
             where
-              plain : Related size barsSize (step item s) (made .st) (made .table) (notesNext token st joined (rules.nextValue s) table (at + 1) held notes) (made .bars) (made .figure)
-              plain = token-related (at + 1) (start + at) (end - at) (getD data′ at 0) (valueFrom data′ at end) (w .related) joined joins (rules.nextValue s) refl token (decoded .1) (roomy token passes)
+              plain : Related size barsSize (step item s) (made .st) (made .table) (notesNext token st joined (rules.nextValue s) table here held notes) (made .bars) (made .figure)
+              plain = token-related here (start + at) (end - at) (getD data′ at 0) (valueFrom data′ at end) (w .related) joined joins (rules.nextValue s) refl token (decoded .1) (roomy token passes)
 
-              notes-are : notesNext token st joined (rules.nextValue s) table (at + 1) held notes ≡ made .notes
-              notes-are = sym (taken-agrees (at + 1) (start + at) (end - at) (getD data′ at 0) (valueFrom data′ at end) data′ s st (w .rhythm) (w .related .voice) joined rules-join token table held notes)
+              notes-are : notesNext token st joined (rules.nextValue s) table here held notes ≡ made .notes
+              notes-are = sym (taken-agrees here (start + at) (end - at) (getD data′ at 0) (valueFrom data′ at end) data′ s st (w .rhythm) (w .related .voice) joined rules-join token table held notes)
 
               related-on : Related size barsSize (step item s) (withDiagnostics (countAfterAll (st .diagnostics) found) (made .st)) (made .table) (made .notes) (made .bars) (made .figure)
               related-on = record {
@@ -361,4 +376,4 @@ module _ (data′ : List ℕ) (start : ℕ) (k : rules.Attributes) (count₀ : �
     -- ---- it ends
 
     pub ended : length data′ ≤ at → itemsAfter 0 1 start data′ [] ≡ w .before
-    ended h = w .reads ∙ items-end data′ at h (at + 1) (start + at) (w .before)
+    ended h = w .reads ∙ items-end data′ at h here (start + at) (w .before)

@@ -2,6 +2,7 @@
 pub mod ClosingLaws
 pub mod TokenLaws
 pub mod TakingLaws
+pub mod PlaceLaws
 pub mod HoldLaws
 pub mod FrameLaws
 pub mod DataLaws

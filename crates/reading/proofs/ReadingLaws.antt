@@ -16,6 +16,7 @@ use Rattle.rules.specs.Records.{_or_, given, isEmpty, Bar, notesOf, Diagnostic}
 use Rattle.rules.specs.Rules as rules
 use Rattle.rules.specs.Fields.{fieldsOf, fieldsDiagnosed, dataOf}
 use Rattle.rules.specs.Diagnostics.{dataDiagnosed}
+use Rattle.rules.specs.Characters.{charactersIn}
 use Rattle.rules.specs.Refusals.{Refusal, refusal, tokenRefusal, tokensRefusal, overBars, endRefusal, dataRefusal, refusalOf}
 use Rattle.rules.specs.Reading.{Lent, lentRecords, attributesOf, tokensOf, diagnosticsOf, Reading, accepted, refused, reading}
 use Rattle.rules.specs.Words as words
@@ -204,18 +205,18 @@ module _ (text : List ℕ) (notesSize barsSize figureSize size : ℕ) (s : Field
   diagnostics-taken = λ i. dataDiagnosed (k-taken i) (itemsOf (part-taken i)) ++ fieldsDiagnosed text
 
   module _ (cells : ℕ) (entered : entryCheck text cells ≡ 0) where
-    whole : refusalOf text (lentRecords (lentAll cells)) ≡ tokensRefusal (walk.lent room) k (itemsOf part) or endRefusal (lentRecords (lentAll cells)) (length (part .bytes)) endState
+    whole : refusalOf text (lentRecords (lentAll cells)) ≡ tokensRefusal (walk.lent room) k (itemsOf part) or endRefusal (lentRecords (lentAll cells)) (charactersIn (part .bytes)) endState
     whole =
         data-left text (lentRecords (lentAll cells)) (text-passes text (lentRecords (lentAll cells)) entered value-taken)
         ∙ (λ i. dataRefusal (lentRecords (lentAll cells)) (k-taken i) (part-taken i))
-        ∙ ap (λ (o : Option Refusal). o or endRefusal (lentRecords (lentAll cells)) (length (part .bytes)) endState) (tokens-same room cells k (itemsOf part))
+        ∙ ap (λ (o : Option Refusal). o or endRefusal (lentRecords (lentAll cells)) (charactersIn (part .bytes)) endState) (tokens-same room cells k (itemsOf part))
 
     module _ {n : ℕ} {scratch₀ notes bars scratch : List ℤ} {r : Outcome} (d : DataRead (part .bytes) (s .start) (s .attributes) n scratch₀ notesSize barsSize room r notes bars scratch) where
       -- at a token
       pub token-refused : (r .number ≡ 0 → ⊥) → refusalOf text (lentRecords (lentAll cells)) ≡ some (refusal (r .number) (r .place))
       token-refused h =
           whole
-          ∙ ap (λ (o : Option Refusal). o or endRefusal (lentRecords (lentAll cells)) (length (part .bytes)) endState) (d .stops ∙ ap (λ (b : Bool). cond b none (some (refusal (r .number) (r .place)))) (ne-eqb (r .number) 0 h))
+          ∙ ap (λ (o : Option Refusal). o or endRefusal (lentRecords (lentAll cells)) (charactersIn (part .bytes)) endState) (d .stops ∙ ap (λ (b : Bool). cond b none (some (refusal (r .number) (r .place)))) (ne-eqb (r .number) 0 h))
 
       module _ (h : r .number ≡ 0) where
         abbrev counts : Counts
@@ -224,10 +225,10 @@ module _ (text : List ℕ) (notesSize barsSize figureSize size : ℕ) (s : Field
         held : Stored notesSize (endState .openBar) (endState .bars) counts notes
         held = d .finished h .stored
 
-        end-left : refusalOf text (lentRecords (lentAll cells)) ≡ endRefusal (lentRecords (lentAll cells)) (length (part .bytes)) endState
+        end-left : refusalOf text (lentRecords (lentAll cells)) ≡ endRefusal (lentRecords (lentAll cells)) (charactersIn (part .bytes)) endState
         end-left =
             whole
-            ∙ ap (λ (o : Option Refusal). o or endRefusal (lentRecords (lentAll cells)) (length (part .bytes)) endState) (d .stops ∙ ap (λ (b : Bool). cond b none (some (refusal (r .number) (r .place)))) (eq-eqb (r .number) 0 h))
+            ∙ ap (λ (o : Option Refusal). o or endRefusal (lentRecords (lentAll cells)) (charactersIn (part .bytes)) endState) (d .stops ∙ ap (λ (b : Bool). cond b none (some (refusal (r .number) (r .place)))) (eq-eqb (r .number) 0 h))
 
         over-agrees : overBars (lentRecords (lentAll cells)) endState ≡ hasContent counts && leb (room .bars) (counts .bars)
         over-agrees = bars-agree room cells endState held
@@ -237,16 +238,16 @@ module _ (text : List ℕ) (notesSize barsSize figureSize size : ℕ) (s : Field
 
         -- what is left of the refusal by the two tests at the end
         abbrev byTests : Bool → Bool → Option Refusal
-        byTests over empty = cond over (some (refusal 12 (length (part .bytes) + 1))) (cond empty (some (refusal 13 0)) none)
+        byTests over empty = cond over (some (refusal 12 (charactersIn (part .bytes) + 1))) (cond empty (some (refusal 13 0)) none)
 
         by-tests : {a b : Bool} → hasContent counts && leb (room .bars) (counts .bars) ≡ a → eqb (counts .notes) 0 ≡ b → refusalOf text (lentRecords (lentAll cells)) ≡ byTests a b
         by-tests p q = end-left ∙ (λ i. byTests ((over-agrees ∙ p) i) ((none-agrees ∙ q) i))
 
         -- 12 or 13 at the end
-        pub end-refused : {k : Stop} → k ≡ endCheck counts (room .bars) (length (part .bytes)) → (k .number ≡ 0 → ⊥) → refusalOf text (lentRecords (lentAll cells)) ≡ some (refusal (k .number) (k .place))
+        pub end-refused : {k : Stop} → k ≡ endCheck counts (room .bars) (charactersIn (part .bytes)) → (k .number ≡ 0 → ⊥) → refusalOf text (lentRecords (lentAll cells)) ≡ some (refusal (k .number) (k .place))
         end-refused {k} is z = by-tests refl refl ∙ go (hasContent counts && leb (room .bars) (counts .bars)) (eqb (counts .notes) 0) is
           where
-            go : (over empty : Bool) → k ≡ cond over (record { number = 12; place = length (part .bytes) + 1 }) (cond empty (record { number = 13; place = 0 }) (record { number = 0; place = 0 })) → byTests over empty ≡ some (refusal (k .number) (k .place))
+            go : (over empty : Bool) → k ≡ cond over (record { number = 12; place = charactersIn (part .bytes) + 1 }) (cond empty (record { number = 13; place = 0 }) (record { number = 0; place = 0 })) → byTests over empty ≡ some (refusal (k .number) (k .place))
             go true empty e = ap (λ (x : Stop). some (refusal (x .number) (x .place))) (sym e)
             go false true e = ap (λ (x : Stop). some (refusal (x .number) (x .place))) (sym e)
             go false false e = absurd (z (ap (λ (x : Stop). x .number) e))

@@ -13,6 +13,7 @@ use super::step::figure_repeat;
 use super::step::key;
 use super::step::meter;
 use super::step::note;
+use super::step::tails_after;
 use super::step::tie;
 use super::step::trill;
 use super::step::voice_after;
@@ -108,11 +109,13 @@ pub fn read_data(
     let mut st = begin(attributes, diagnostics);
     let mut table = cleared();
     let mut at = 0;
+    // How many bytes before `at` continue a character: places fall behind offsets by so many.
+    let mut tails = 0;
     while at < data.len() {
         let first = at;
         let end = token_end(data, first);
-        let token = decode(data[first], end - first);
-        let span = span_of(first, end, start);
+        let token = decode(&data[first..end]);
+        let span = span_of(first, end, start, tails);
         at = end;
         match token {
             // Clef: `%`, taken while the open bar has no note.
@@ -123,6 +126,7 @@ pub fn read_data(
                 let found = clef_remarks(content, value, span);
                 st.diagnostics = store_found(scratch, st.diagnostics, found);
                 st.attributes = clef(st.attributes, content, value);
+                tails = tails_after(data, first, end, tails);
                 continue;
             }
             // Key signature: `$`, likewise.
@@ -346,6 +350,10 @@ pub fn read_data(
             },
             // Blanks do nothing.
             Token::Blank => {
+                if data[first] < 128 {
+                    continue;
+                }
+                tails = tails_after(data, first, end, tails);
                 continue;
             }
             // A lone `:` is no barline.
@@ -362,6 +370,10 @@ pub fn read_data(
             Token::Unknown => {
                 let found = whole(15, span);
                 st.diagnostics = store_found(scratch, st.diagnostics, found);
+                if data[first] < 128 {
+                    continue;
+                }
+                tails = tails_after(data, first, end, tails);
                 continue;
             }
         }

@@ -114,7 +114,7 @@ fn read_fielded(
         return refuse(notes, bars, figure, scratch, outcome.number, outcome.place);
     }
     let st = outcome.st;
-    let stop = check_end(st.counts, room.bars, data.len());
+    let stop = check_end(st.counts, room.bars, data);
     if stop.number != 0 {
         return refuse(notes, bars, figure, scratch, stop.number, stop.place);
     }

@@ -4,14 +4,17 @@ ghost use mathlib.Core.Bool.{true, cond};
 ghost use Prim.Native.Nat.{_+_, _*_, _<_, _≤_};
 ghost use lib.ListN.{length};
 ghost use Rattle.rules.specs.Limits.{noteSize};
+ghost use Rattle.character.specs.Tails.{tailsIn};
 ghost use Rattle.records.specs.Cells.{wordLimit};
 ghost use Rattle.records.specs.Groups.{closingOf};
 ghost use Rattle.values.specs.Attributes.{clefValue, keyValue, meterOption};
 ghost use Rattle.values.specs.Rhythm.{lengthIn};
 ghost use Rattle.steps.specs.State.{letterJoined, letterOpened, hasContent, clefSet, keySet, meterSet, counted, repeatedCount};
 ghost use Rattle.steps.specs.Notes.{joinedCells, openedCells, tiedCells, trilledCells, closedCells};
+ghost use Rattle.remarks.specs.Remarks.{valueFrom};
 ghost use Rattle.reading.specs.Cells.{figureCopied, barCopied, figureTaken, beamCells, closingIn, groupCells};
 ghost use Rattle.reading.specs.Ready.{Within, PlaceReady, LetterReady, FigureReady, ClosingReady, GroupReady, TrillReady};
+use character::tails_in;
 use limits::Attributes;
 use limits::Counts;
 use limits::Groups;
@@ -31,6 +34,17 @@ use values::attributes::Key;
 use values::attributes::Meter;
 use values::rhythm::Value;
 use values::rhythm::normal_of;
+
+// ---- characters of several bytes
+
+// How many bytes of the data continue a character, up to the end of the token from `first` to `end`; before it, `tails` do.
+pub fn tails_after(data: &[u8], first: usize, end: usize, tails: usize) -> usize
+    requires { ⌜ (first < end) × (end ≤ length (now «data»)) × (tails ≤ first) ⌝ }
+    ensures { λ r. ⌜ r ≡ tails + tailsIn (valueFrom (now («data» .entry)) first end) ⌝ }
+{
+    let from = first + 1;
+    tails + tails_in(&data[from..end])
+}
 
 // ---- clef, key, meter
 

@@ -37,17 +37,21 @@ itemIn span = record { place = span .place .0; offset = span .offset .0; size = 
 abbrev pub SpanFits : Span → Type 0
 SpanFits span = (span .place .0 < wordLimit) × (0 < span .size) × (span .offset .0 + span .size < wordLimit)
 
--- the span of the data's token from `at` to `end`, where the data stands at offset `start` of the text
-abbrev pub spanOf : ℕ → ℕ → ℕ → Span
-spanOf at end start = record { place = record { 0 = at + 1 }; offset = record { 0 = start + at }; size = end - at }
+-- the place of the data's token at an offset, before which so many bytes continue a character
+abbrev pub placeAt : ℕ → ℕ → ℕ
+placeAt at tails = at + 1 - tails
+
+-- the span of the data's token at a place, from `at` to `end`, where the data stands at offset `start` of the text
+abbrev pub spanOf : ℕ → ℕ → ℕ → ℕ → Span
+spanOf place at end start = record { place = record { 0 = place }; offset = record { 0 = start + at }; size = end - at }
 
 -- the bytes after the first of the data's token from `at` to `end`
 abbrev pub valueFrom : List ℕ → ℕ → ℕ → List ℕ
 valueFrom data′ at end = take (end - (at + 1)) (drop (at + 1) data′)
 
 -- that token, where the data stands at offset `start` of the text
-abbrev pub itemFrom : List ℕ → ℕ → ℕ → ℕ → Token → rules.Item
-itemFrom data′ start at end token = record { place = at + 1; offset = start + at; size = end - at; token = tokenIn (getD data′ at 0) (valueFrom data′ at end) token }
+abbrev pub itemFrom : List ℕ → ℕ → ℕ → ℕ → ℕ → Token → rules.Item
+itemFrom data′ start place at end token = record { place = place; offset = start + at; size = end - at; token = tokenIn (getD data′ at 0) (valueFrom data′ at end) token }
 
 -- ---- what it diagnoses
 

@@ -9,7 +9,7 @@ ghost use Rattle.rules.specs.Diagnostics.{unless, closingDiagnosed};
 ghost use Rattle.records.specs.Cells.{wordLimit};
 ghost use Rattle.records.specs.Groups.{closingOf};
 ghost use Rattle.diagnose.specs.Found.{foundIn};
-ghost use Rattle.remarks.specs.Remarks.{SpanFits, spanOf, itemIn, whole, after, clefFound, keyFound, meterFound, markFound, countFound, groupFound};
+ghost use Rattle.remarks.specs.Remarks.{SpanFits, placeAt, spanOf, itemIn, whole, after, clefFound, keyFound, meterFound, markFound, countFound, groupFound};
 use diagnose::Found;
 use diagnose::Where;
 use diagnose::clef_found;
@@ -37,13 +37,13 @@ pub struct Span {
     pub size: u32,
 }
 
-// Of the token from `at` to `end` of the data, which stands at offset `start` of the text.
-pub fn span_of(at: usize, end: usize, start: usize) -> Span
-    requires { ⌜ (at < end) × (start + end < wordLimit) ⌝ }
-    ensures { λ r. ⌜ r ≡ spanOf at end start ⌝ }
+// Of the token from `at` to `end` of the data, which stands at offset `start` of the text; before the token, `tails` bytes of the data continue a character.
+pub fn span_of(at: usize, end: usize, start: usize, tails: usize) -> Span
+    requires { ⌜ (at < end) × (start + end < wordLimit) × (tails ≤ at) ⌝ }
+    ensures { λ r. ⌜ r ≡ spanOf (placeAt at tails) at end start ⌝ }
 {
     Span {
-        place: Place((at + 1) as u32),
+        place: Place((at + 1 - tails) as u32),
         offset: Offset((start + at) as u32),
         size: (end - at) as u32,
     }

@@ -9,6 +9,7 @@ use mathlib.Core.List.{List, [], _∷_, _++_}
 use lib.IntN.{ℤ, pos}
 use Rattle.rules.specs.Limits.{noteSize}
 use Rattle.rules.specs.Text.{bytes}
+use Rattle.rules.specs.Characters.{characterSize, codePoint, isBlank}
 use Rattle.rules.specs.Cut.{tokenSize}
 use Rattle.rules.specs.Tokens.{Item, letter, tokenOf, itemAt, itemsAfter}
 use Rattle.rules.specs.Fields.{linesAfter, fieldsAfter, fieldsOf}
@@ -56,7 +57,7 @@ pub record Cheats : Type 0 where
   pub count : Demand3 (bytes "C") 2 (noteAt 1 0 4 1 (pitch 1 0) ++ zeros noteSize) → ⊥
 
 pub cheats : Cheats
-unfolding tokenSize tokenOf itemAt itemsAfter linesAfter fieldsAfter fieldsOf patternOf stateAfter step
+unfolding characterSize codePoint isBlank tokenSize tokenOf itemAt itemsAfter linesAfter fieldsAfter fieldsOf patternOf stateAfter step
 cheats = record {
   blank = λ d. neither (d .agrees .everyLetter (record { later = []; item = letterAt 1 0; before = []; step = 0; stands = refl; isLetter = refl }));
   step = λ d. differ 0 1 tt (ap (λ q. natural (q .step)) (sole (d .agrees .everyLetter (record { later = []; item = letterAt 1 1; before = []; step = 1; stands = refl; isLetter = refl }))));

@@ -1,3 +1,5 @@
+pub mod Runs
+pub mod Low
 pub mod Room
 pub mod Lines
 pub mod Cheats

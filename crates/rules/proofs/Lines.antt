@@ -1,12 +1,13 @@
--- 01's 'Lines to prove, lines to dodge', over the bytes, as one statement; lines for its mistakes to rule out; and lines for slips in single rules.
+-- 01's 'Lines to prove, lines to dodge', over the bytes, as one statement; lines for its mistakes to rule out; lines of characters (02, R-1); and lines for slips in single rules.
 -- Each holds for every lent size that suffices. Assumes nothing.
 use Prim.Native.Nat.{ℕ, zero, suc, _*_, _≤_}
-use mathlib.Core.Path.{_≡_, ap}
+use mathlib.Core.Path.{_≡_, refl, ap}
 use mathlib.Core.List.{List, [], _∷_, _++_}
 use lib.IntN.{ℤ, pos, negℤ}
 use lib.ListN.{take, drop, getD}
 use Rattle.rules.specs.Limits.{pitchSize, firstPitch, noteSize, barSize, diagnosticSize, diagnosticLimit}
 use Rattle.rules.specs.Text.{bytes}
+use Rattle.rules.specs.Characters.{formedSize, formedAfter, characterSize, charactersIn, codePoint, isBlank, nonBlanksSize}
 use Rattle.rules.specs.Cut.{tokenSize}
 use Rattle.rules.specs.Values.{clefOf, keyOf, meterOf, countOf, patternOf}
 use Rattle.rules.specs.Tokens.{tokenOf, itemAt, itemsAfter}
@@ -150,7 +151,7 @@ pub record Lines : Type 0 where
   pub whole-bar-rest : (lent : Lent) → Suffices 1 0 0 lent → outcome (reading (bytes "C=") lent) ≡ 6 ∷ 2 ∷ []
 
 pub lines : Lines
-unfolding tokenSize clefOf keyOf meterOf countOf patternOf tokenOf itemAt itemsAfter step stateAfter dataDiagnosed linesAfter fieldsAfter linesDiagnosed fieldsOf fieldsDiagnosed tokensRefusal refusalOf
+unfolding formedSize formedAfter characterSize charactersIn codePoint isBlank nonBlanksSize tokenSize clefOf keyOf meterOf countOf patternOf tokenOf itemAt itemsAfter step stateAfter dataDiagnosed linesAfter fieldsAfter linesDiagnosed fieldsOf fieldsDiagnosed tokensRefusal refusalOf
 lines = record {
   sharp = λ lent h. ap alterations (reads _ h tt);
   sharp-waits = λ lent h. ap alterations (reads _ h tt);
@@ -195,7 +196,7 @@ pub record Mistakes : Type 0 where
   pub clef : (lent : Lent) → Suffices 1 1 0 lent → clefs (reading (bytes "@data:C" ++ 10 ∷ bytes "@clef:F-4") lent) ≡ these (3 ∷ [])
 
 pub mistakes : Mistakes
-unfolding tokenSize clefOf keyOf meterOf countOf patternOf tokenOf itemAt itemsAfter step stateAfter dataDiagnosed linesAfter fieldsAfter linesDiagnosed fieldsOf fieldsDiagnosed tokensRefusal refusalOf
+unfolding formedSize formedAfter characterSize charactersIn codePoint isBlank nonBlanksSize tokenSize clefOf keyOf meterOf countOf patternOf tokenOf itemAt itemsAfter step stateAfter dataDiagnosed linesAfter fieldsAfter linesDiagnosed fieldsOf fieldsDiagnosed tokensRefusal refusalOf
 mistakes = record {
   sign-rest = λ lent h. ap alterations (reads _ h tt);
   slash-rest = λ lent h. ap kinds (reads _ h tt);
@@ -208,6 +209,85 @@ mistakes = record {
   copied-bar = λ lent h. ap alterations (reads _ h tt);
   copied-figure = λ lent h. ap alterations (reads _ h tt);
   clef = λ lent h. ap clefs (reads _ h tt);
+}
+
+-- ---- characters (02, R-1)
+
+-- the bytes of `é`, `ü`, `ï`; a blank, U+00A0; a line separator, U+2028; a zero-width space, U+200B, which is no blank
+abbrev é : List ℕ
+é = 195 ∷ 169 ∷ []
+
+abbrev ü : List ℕ
+ü = 195 ∷ 188 ∷ []
+
+abbrev ï : List ℕ
+ï = 195 ∷ 175 ∷ []
+
+abbrev noBreak : List ℕ
+noBreak = 194 ∷ 160 ∷ []
+
+abbrev separator : List ℕ
+separator = 226 ∷ 128 ∷ 168 ∷ []
+
+abbrev zeroWidth : List ℕ
+zeroWidth = 226 ∷ 128 ∷ 139 ∷ []
+
+-- a note's words are lent, but no bar's
+abbrev barless : Lent
+barless = record { notes = noteSize; bars = 0; figure = 0; diagnostics = diagnosticLimit }
+
+pub record Characters : Type 0 where
+  -- `éC`: d15 at 1, offsets 0 to 2; the note at place 2
+  pub unknown : (lent : Lent) → Suffices 1 1 0 lent → diagnosed (reading (é ++ bytes "C") lent) ≡ these (15 ∷ 3 ∷ 1 ∷ 1 ∷ 0 ∷ 2 ∷ []) ∷ []
+  pub unknown-place : (lent : Lent) → Suffices 1 1 0 lent → places (reading (é ++ bytes "C") lent) ≡ these (2 ∷ [])
+  -- with no bar lent 12 at 3
+  pub no-bar : outcome (reading (é ++ bytes "C") barless) ≡ 12 ∷ 3 ∷ []
+  -- U+00A0 before `C`: a blank, one note at 2, no diagnostic; alone it is refused 4
+  pub blank : (lent : Lent) → Suffices 1 1 0 lent → diagnosed (reading (noBreak ++ bytes "C") lent) ≡ []
+  pub blank-place : (lent : Lent) → Suffices 1 1 0 lent → places (reading (noBreak ++ bytes "C") lent) ≡ these (2 ∷ [])
+  pub blank-text : (lent : Lent) → Suffices 0 0 0 lent → outcome (reading noBreak lent) ≡ 4 ∷ 0 ∷ []
+  -- U+200B is none
+  pub no-blank : (lent : Lent) → Suffices 1 1 0 lent → diagnosed (reading (zeroWidth ++ bytes "C") lent) ≡ these (15 ∷ 3 ∷ 1 ∷ 1 ∷ 0 ∷ 3 ∷ []) ∷ []
+  -- `%é+üC`: three characters, a `+` in the middle: d4, then d5 (the latest last); the note at place 5
+  pub clef : (lent : Lent) → Suffices 1 1 0 lent → diagnosed (reading (bytes "%" ++ é ++ bytes "+" ++ ü ++ bytes "C") lent) ≡ these (4 ∷ 3 ∷ 1 ∷ 1 ∷ 1 ∷ 6 ∷ []) ∷ these (5 ∷ 3 ∷ 1 ∷ 1 ∷ 1 ∷ 6 ∷ []) ∷ []
+  pub clef-place : (lent : Lent) → Suffices 1 1 0 lent → places (reading (bytes "%" ++ é ++ bytes "+" ++ ü ++ bytes "C") lent) ≡ these (5 ∷ [])
+  -- `@tïtle:x`, `@data:C`: no field, d1
+  pub key : (lent : Lent) → Suffices 1 1 0 lent → diagnosed (reading (bytes "@t" ++ ï ++ bytes "tle:x" ++ 10 ∷ bytes "@data:C") lent) ≡ these (1 ∷ 1 ∷ 1 ∷ 1 ∷ 0 ∷ 9 ∷ []) ∷ []
+  -- U+2028 ends no line and is trimmed: `@data:` U+2028 `C` U+2028
+  pub trimmed : (lent : Lent) → Suffices 1 1 0 lent → places (reading (bytes "@data:" ++ separator ++ bytes "C" ++ separator) lent) ≡ these (1 ∷ [])
+  -- a character at the end of a value stays whole: `@title:é`, d2 with offsets 7 to 9
+  pub kept : (lent : Lent) → Suffices 1 1 0 lent → diagnosed (reading (bytes "@title:" ++ é ++ 10 ∷ bytes "@data:C") lent) ≡ these (2 ∷ 2 ∷ 1 ∷ 1 ∷ 7 ∷ 9 ∷ []) ∷ []
+  -- a surrogate, an overlong form, above U+10FFFF, a character cut off, in a field that isn't read too: refused 3
+  pub surrogate : (lent : Lent) → Suffices 0 0 0 lent → outcome (reading (bytes "C" ++ 237 ∷ 160 ∷ 128 ∷ []) lent) ≡ 3 ∷ 0 ∷ []
+  pub overlong : (lent : Lent) → Suffices 0 0 0 lent → outcome (reading (bytes "C" ++ 192 ∷ 175 ∷ []) lent) ≡ 3 ∷ 0 ∷ []
+  pub beyond : (lent : Lent) → Suffices 0 0 0 lent → outcome (reading (bytes "C" ++ 244 ∷ 144 ∷ 128 ∷ 128 ∷ []) lent) ≡ 3 ∷ 0 ∷ []
+  pub cut-off : (lent : Lent) → Suffices 0 0 0 lent → outcome (reading (bytes "C" ++ 195 ∷ []) lent) ≡ 3 ∷ 0 ∷ []
+  pub unread : (lent : Lent) → Suffices 0 0 0 lent → outcome (reading (bytes "@x:" ++ 195 ∷ 10 ∷ bytes "@data:C") lent) ≡ 3 ∷ 0 ∷ []
+
+no-bar-lent : outcome (reading (é ++ bytes "C") barless) ≡ 12 ∷ 3 ∷ []
+unfolding formedSize formedAfter characterSize charactersIn codePoint isBlank nonBlanksSize tokenSize tokenOf itemAt itemsAfter step stateAfter linesAfter fieldsAfter fieldsOf tokensRefusal refusalOf reading
+no-bar-lent = refl
+
+pub characters : Characters
+unfolding formedSize formedAfter characterSize charactersIn codePoint isBlank nonBlanksSize tokenSize clefOf keyOf meterOf countOf patternOf tokenOf itemAt itemsAfter step stateAfter dataDiagnosed linesAfter fieldsAfter linesDiagnosed fieldsOf fieldsDiagnosed tokensRefusal refusalOf
+characters = record {
+  unknown = λ lent h. ap diagnosed (reads _ h tt);
+  unknown-place = λ lent h. ap places (reads _ h tt);
+  no-bar = no-bar-lent;
+  blank = λ lent h. ap diagnosed (reads _ h tt);
+  blank-place = λ lent h. ap places (reads _ h tt);
+  blank-text = λ lent h. ap outcome (reads _ h tt);
+  no-blank = λ lent h. ap diagnosed (reads _ h tt);
+  clef = λ lent h. ap diagnosed (reads _ h tt);
+  clef-place = λ lent h. ap places (reads _ h tt);
+  key = λ lent h. ap diagnosed (reads _ h tt);
+  trimmed = λ lent h. ap places (reads _ h tt);
+  kept = λ lent h. ap diagnosed (reads _ h tt);
+  surrogate = λ lent h. ap outcome (reads _ h tt);
+  overlong = λ lent h. ap outcome (reads _ h tt);
+  beyond = λ lent h. ap outcome (reads _ h tt);
+  cut-off = λ lent h. ap outcome (reads _ h tt);
+  unread = λ lent h. ap outcome (reads _ h tt);
 }
 
 -- ---- single rules
@@ -253,7 +333,7 @@ pub record Slips : Type 0 where
   pub nine-marks : (lent : Lent) → Suffices 1 0 0 lent → outcome (reading (bytes "Cttttttttt") lent) ≡ 10 ∷ 10 ∷ []
 
 pub slips : Slips
-unfolding tokenSize clefOf keyOf meterOf countOf patternOf tokenOf itemAt itemsAfter step stateAfter dataDiagnosed linesAfter fieldsAfter linesDiagnosed fieldsOf fieldsDiagnosed tokensRefusal refusalOf
+unfolding formedSize formedAfter characterSize charactersIn codePoint isBlank nonBlanksSize tokenSize clefOf keyOf meterOf countOf patternOf tokenOf itemAt itemsAfter step stateAfter dataDiagnosed linesAfter fieldsAfter linesDiagnosed fieldsOf fieldsDiagnosed tokensRefusal refusalOf
 slips = record {
   fresh-octave = λ lent h. ap octaves (reads _ h tt);
   fresh-length = λ lent h. ap durations (reads _ h tt);

@@ -11,6 +11,7 @@ use lib.ListN.{length}
 use lib.Dec.{T, T-not, leb, ltb}
 use Rattle.rules.specs.Limits.{noteSize, barSize, diagnosticLimit}
 use Rattle.rules.specs.Text.{among}
+use Rattle.rules.specs.Characters.{charactersIn}
 use Rattle.rules.specs.Tokens.{Figure, figureMark, figureRepeat, barRepeat, figureIn, isBarline, Token, Item}
 use Rattle.rules.specs.Records.{_or_, given, isEmpty}
 use Rattle.rules.specs.Rules.{State, Attributes, stateAfter, stores, stored}
@@ -128,7 +129,7 @@ module _ (less more : LentRecords) (w : Within less more) where
   refusal-kept : (text : List ℕ) → Kept (λ r. r .number) (refusalOf text less) (refusalOf text more)
   unfolding refusalOf
   refusal-kept text = let k = attributesOf text in let all = tokensOf text in
-      kept-or (λ r. r .number) (text-kept text) (kept-or (λ r. r .number) (tokens-kept k all) (end-kept (length (dataOf text .bytes)) (stateAfter k all)))
+      kept-or (λ r. r .number) (text-kept text) (kept-or (λ r. r .number) (tokens-kept k all) (end-kept (charactersIn (dataOf text .bytes)) (stateAfter k all)))
 
 -- ---- just so many records lent
 

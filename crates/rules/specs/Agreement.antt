@@ -1,13 +1,14 @@
 -- Demand 3: what stands in the note cells and the look-back agree on every letter (01, 'The look-back'). Assumes nothing.
-use Prim.Native.Nat.{ℕ, _+_}
+use Prim.Native.Nat.{ℕ, _+_, _-_}
 use mathlib.Core.Path.{_≡_}
 use mathlib.Core.Bool.{Bool, false, _&&_, _||_}
 use mathlib.Core.Logic.{_⊎_}
 use mathlib.Core.Option.{some}
 use mathlib.Core.List.{List, [], _∷_, _++_, map}
 use lib.IntN.{ℤ, pos}
-use lib.ListN.{length}
-use Rattle.rules.specs.Text.{bytes, if_then_else_, begins}
+use lib.ListN.{length, take}
+use Rattle.rules.specs.Text.{bytes, if_then_else_, begins, Part}
+use Rattle.rules.specs.Characters.{charactersIn}
 use Rattle.rules.specs.Tokens.{Item}
 use Rattle.rules.specs.Fields.{dataOf}
 use Rattle.rules.specs.Rules.{Attributes}
@@ -26,7 +27,7 @@ Some P [] = ⊥
 Some P (x ∷ l) = P x ⊎ Some P l
 
 -- a letter token of the data, with its step, the tokens behind it and those before it
-pub record Letter (line : List ℕ) (all : List Item) : Type 0 where
+pub record Letter (line : Part) (all : List Item) : Type 0 where
   pub later : List Item
   pub item : Item
   pub before : List Item
@@ -45,25 +46,25 @@ abbrev pub isRepeat : List ℕ → Bool
 isRepeat text = begins (bytes "f") text || begins (bytes "i") text
 
 -- whether a word holds the place of one
-abbrev pub hasRepeat : List ℕ → List Item → ℤ → Bool
+abbrev pub hasRepeat : Part → List Item → ℤ → Bool
 hasRepeat line [] place = false
 hasRepeat line (x ∷ before) place = (isRepeat (textOf line x) && isPlace place (x .place)) || hasRepeat line before place
 
 -- the copies among stored notes
-abbrev pub copiesIn : List ℕ → List Item → List StoredNote → List StoredNote
+abbrev pub copiesIn : Part → List Item → List StoredNote → List StoredNote
 copiesIn line all notes = keep (λ r. hasRepeat line all (r .heading .place)) notes
 
 -- the letters that open a record
-abbrev pub openedLetters : Attributes → List ℕ → List Item → ℕ
+abbrev pub openedLetters : Attributes → Part → List Item → ℕ
 openedLetters k line all = count never (isOpening k line) all
 
 -- the `-` tokens
-abbrev pub restTokens : List ℕ → List Item → ℕ
+abbrev pub restTokens : Part → List Item → ℕ
 restTokens line all = count never (λ x before. isDash (textOf line x)) all
 
--- ---- of the fields' attributes, the data's bytes and its tokens
+-- ---- of the fields' attributes, the data and its tokens
 
-module _ (k : Attributes) (line : List ℕ) (all : List Item) where
+module _ (k : Attributes) (line : Part) (all : List Item) where
   -- the pitch that the look-back gives a letter
   abbrev pub lookedBack : Letter line all → StoredPitch
   lookedBack l = record { place = pos (l .item .place); step = pos (l .step); octave = pos (backOctave (l .before)); alter = backAlter k line (l .before) (l .step) }
@@ -91,9 +92,15 @@ module _ (k : Attributes) (line : List ℕ) (all : List Item) where
 
 -- ---- of a text
 
+-- a token's place is one more than the characters before it in the data
+abbrev pub Placed : Part → Item → Type 0
+Placed line x = x .place ≡ 1 + charactersIn (take (x .offset - line .start) (line .bytes))
+
 -- demand 3 of a text, the note count and the note cells
 pub record Demand3 (text : List ℕ) (count : ℕ) (cells : List ℤ) : Type 0 where
+  -- places count characters
+  pub placed : All (Placed (dataOf text)) (tokensOf text)
   -- the first records, as counted, agree with the look-back
-  pub agrees : Agreement (attributesOf text) (dataOf text .bytes) (tokensOf text) (notesIn cells count)
+  pub agrees : Agreement (attributesOf text) (dataOf text) (tokensOf text) (notesIn cells count)
   -- the note count is opened letters plus rests plus copies
-  pub counted : let line = dataOf text .bytes in let all = tokensOf text in count ≡ openedLetters (attributesOf text) line all + restTokens line all + length (copiesIn line all (notesIn cells count))
+  pub counted : let line = dataOf text in let all = tokensOf text in count ≡ openedLetters (attributesOf text) line all + restTokens line all + length (copiesIn line all (notesIn cells count))

@@ -6,7 +6,8 @@ use mathlib.Core.Option.{Option, none, some, Option·getD}
 use mathlib.Core.List.{List, [], _∷_, _++_}
 use lib.ListN.{take, drop, getD}
 use lib.Dec.{eqb, ltb}
-use Rattle.rules.specs.Text.{bytes, if_then_else_, isAlphabetic, runLength, begins, isText, Part, endOf, without, trim}
+use Rattle.rules.specs.Text.{bytes, if_then_else_, isAlphabetic, runLength, begins, isText, Part, endOf, without}
+use Rattle.rules.specs.Characters.{trim}
 use Rattle.rules.specs.Values.{noAlters, clefOf, keyOf, meterOf}
 use Rattle.rules.specs.Records.{_or_, given, isEmpty, atLine, atField, Value, textPart, Diagnostic}
 use Rattle.rules.specs.Rules.{Attributes}

@@ -1,5 +1,6 @@
 pub mod Limits
 pub mod Text
+pub mod Characters
 pub mod Cut
 pub mod Values
 pub mod Tokens

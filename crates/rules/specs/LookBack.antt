@@ -7,7 +7,7 @@ use mathlib.Core.List.{List, [], _∷_}
 use lib.IntN.{ℤ, pos, negsuc}
 use lib.ListN.{length, take, drop, getD}
 use lib.Dec.{eqb, ltb}
-use Rattle.rules.specs.Text.{bytes, if_then_else_, begins}
+use Rattle.rules.specs.Text.{bytes, if_then_else_, begins, Part}
 use Rattle.rules.specs.Values.{Length}
 use Rattle.rules.specs.Tokens.{Item, octaveIn, durationIn, keyIn}
 use Rattle.rules.specs.Records.{_or_, isSome, given, isEmpty, Note}
@@ -36,9 +36,9 @@ keep p (x ∷ xs) = if p x then x ∷ keep p xs else keep p xs
 
 -- ---- what the text of a token says
 
--- the text of a token, by its place in the data's bytes, from 1, and its size
-abbrev pub textOf : List ℕ → Item → List ℕ
-textOf line x = take (x .size) (drop (x .place - 1) line)
+-- the text of a token of the data, by its offset and its size
+abbrev pub textOf : Part → Item → List ℕ
+textOf line x = take (x .size) (drop (x .offset - line .start) (line .bytes))
 
 -- a letter, always a token A to G: its step, 0 to 6 from C
 abbrev pub letterOf : List ℕ → Option ℕ
@@ -103,9 +103,9 @@ undotted duration = record { duration = duration; dots = 0 }
 abbrev pub backPattern : List Item → List Length
 backPattern before = Option·getD (latest never (λ x b. durationIn (x .token)) before) (undotted 4 ∷ [])
 
--- ---- letters, signs, barlines and groups in the data's bytes
+-- ---- letters, signs, barlines and groups in the data
 
-module _ (line : List ℕ) where
+module _ (line : Part) where
   -- a letter
   abbrev pub isLetter : Item → List Item → Bool
   isLetter x before = isSome (letterOf (textOf line x))
@@ -136,9 +136,9 @@ abbrev pub isNoRest : List Note → Bool
 isNoRest [] = false
 isNoRest (n ∷ ns) = not (eqb (n .heading .kind) 1)
 
--- ---- key, chord, grace and length, from the fields' attributes and the data's bytes
+-- ---- key, chord, grace and length, from the fields' attributes and the data
 
-module _ (k : Attributes) (line : List ℕ) where
+module _ (k : Attributes) (line : Part) where
   -- the notes stored since the last barline, by their places
   abbrev pub sinceBarline : List Item → List Note
   sinceBarline before = keep (λ n. ltb (lastBarline line before) (n .heading .place)) (stored (stateAfter k before))

@@ -6,7 +6,8 @@ use mathlib.Core.List.{List, [], _∷_}
 use lib.ListN.{length}
 use lib.Dec.{leb, ltb}
 use Rattle.rules.specs.Limits.{textLimit, noteLimit, diagnosticLimit, pitchCapacity, markCapacity}
-use Rattle.rules.specs.Text.{if_then_else_, isBlank, every, has, Part}
+use Rattle.rules.specs.Text.{if_then_else_, Part}
+use Rattle.rules.specs.Characters.{isFormed, charactersIn, allBlank}
 use Rattle.rules.specs.Tokens.{Figure, figureMark, figureRepeat, barRepeat, Marking, beamOpen, beamClose, groupOpen, groupClose, groupCount, tie, trill, Token, Item, itemsOf, letterIn, isBarline, figureIn, markingIn, isWholeBarRest}
 use Rattle.rules.specs.Records.{_or_, isSome, given, isEmpty, Note}
 use Rattle.rules.specs.Rules.{State, Attributes, Closing, nothing, fermata, tuplet, tooFew, closingOf, isNonGrace, stores, joins, stateAfter, stored}
@@ -41,8 +42,8 @@ abbrev pub textChecks : List ℕ → LentRecords → List Check
 textChecks text lent =
     (1, ltb textLimit (length text))
     ∷ (2, ltb (lent .diagnostics) diagnosticLimit)
-    ∷ (3, has (leb 128) text)
-    ∷ (4, every isBlank text)
+    ∷ (3, not (isFormed text))
+    ∷ (4, allBlank text)
     ∷ (5, not (isSome (fieldsOf text .dataValue)))
     ∷ []
 
@@ -117,12 +118,12 @@ tokensRefusal lent k (x ∷ before) = tokensRefusal lent k before or given (toke
 
 -- ---- at the end and after the data
 
--- 12 at the end, data length plus 1; 13, no note or rest stored
+-- 12 at the end, data length in characters plus 1; 13, no note or rest stored
 abbrev pub endRefusal : LentRecords → ℕ → State → Option Refusal
 endRefusal lent size s = if overBars lent s then some (refusal 12 (size + 1)) else if isEmpty (stored s) then some (refusal 13 0) else none
 
 abbrev pub dataRefusal : LentRecords → Attributes → Part → Option Refusal
-dataRefusal lent k d = tokensRefusal lent k (itemsOf d) or endRefusal lent (length (d .bytes)) (stateAfter k (itemsOf d))
+dataRefusal lent k d = tokensRefusal lent k (itemsOf d) or endRefusal lent (charactersIn (d .bytes)) (stateAfter k (itemsOf d))
 
 -- ---- the whole
 

@@ -24,10 +24,6 @@ abbrev pub among : List ℕ → ℕ → Bool
 among [] b = false
 among (k ∷ ks) b = eqb b k || among ks b
 
--- blank is 9 to 13 and 32
-abbrev pub isBlank : ℕ → Bool
-isBlank b = (leb 9 b && leb b 13) || eqb b 32
-
 abbrev pub isDigit : ℕ → Bool
 isDigit b = leb (code "0") b && leb b (code "9")
 
@@ -85,12 +81,3 @@ endOf p = p .start + length (p .bytes)
 -- a part without its first n bytes
 abbrev pub without : ℕ → Part → Part
 without n p = record { start = p .start + n; bytes = drop n (p .bytes) }
-
--- the bytes without the blanks at their end
-abbrev pub trimEnd : List ℕ → List ℕ
-trimEnd [] = []
-trimEnd (b ∷ bs) = if every isBlank (b ∷ bs) then [] else b ∷ trimEnd bs
-
--- a part without the blanks at its start and at its end
-abbrev pub trim : Part → Part
-trim p = let q = without (runLength isBlank (p .bytes)) p in record { start = q .start; bytes = trimEnd (q .bytes) }

@@ -7,7 +7,8 @@ use mathlib.Core.List.{List, [], _∷_}
 use lib.ListN.{length, take}
 use lib.IntN.{ℤ, pos}
 use lib.Dec.{eqb}
-use Rattle.rules.specs.Text.{bytes, if_then_else_, isBlank, isDigit, isNoteLetter, Part}
+use Rattle.rules.specs.Text.{bytes, if_then_else_, isDigit, isNoteLetter, Part}
+use Rattle.rules.specs.Characters.{begun, isBlank}
 use Rattle.rules.specs.Cut.{tokenSize}
 use Rattle.rules.specs.Values.{Clef, Key, Meter, Length, clefOf, keyOf, meterOf, countOf, raisedOctave, loweredOctave, patternOf, sharpened, flattened, stepOf}
 
@@ -81,7 +82,7 @@ tokenOf b bs = let size = 1 + length bs in
     else if eqb b (code "+") then marking tie
     else if eqb b (code "t") then marking trill
     else if eqb b (code "=") then other wholeBarRest
-    else if isBlank b then other blank
+    else if isBlank (b ∷ bs) then other blank
     else other unknown
 
 -- ---- tokens with their places
@@ -97,11 +98,11 @@ pub record Item : Type 0 where
 unfoldable pub itemAt : ℕ → ℕ → ℕ → List ℕ → Item
 itemAt place offset b bs = let size = tokenSize (b ∷ bs) in record { place = place; offset = offset; size = size; token = tokenOf b (take (size - 1) bs) }
 
--- the tokens of a text after those of `before`, the latest first; the first `skip` bytes belong to the token before
+-- the tokens of a text after those of `before`, the latest first; the first `skip` bytes belong to the token before. A token's first byte begins a character, another one begins one unless it continues one
 unfoldable pub itemsAfter : ℕ → ℕ → ℕ → List ℕ → List Item → List Item
 itemsAfter skip place offset [] before = before
 itemsAfter zero place offset (b ∷ bs) before = itemsAfter (tokenSize (b ∷ bs) - 1) (place + 1) (offset + 1) bs (itemAt place offset b bs ∷ before)
-itemsAfter (suc skip) place offset (b ∷ bs) before = itemsAfter skip (place + 1) (offset + 1) bs before
+itemsAfter (suc skip) place offset (b ∷ bs) before = itemsAfter skip (place + begun b) (offset + 1) bs before
 
 -- the tokens of the data, cut from the left, the latest first
 abbrev pub itemsOf : Part → List Item

@@ -9,6 +9,7 @@ use lib.IntN.{ℤ, pos, negsuc, negℤ}
 use lib.Dec.{eqb, leb, ltb}
 use Rattle.rules.specs.Limits.{dotLimit, octaveLimit, countLimit}
 use Rattle.rules.specs.Text.{bytes, if_then_else_, among, isDigit, isNoteLetter, runLength, every, has, begins, isText, indexIn}
+use Rattle.rules.specs.Characters.{characterSize, charactersIn}
 
 -- ---- clef
 
@@ -34,13 +35,13 @@ clefNamed xs =
     else if isText (bytes "C-5") xs then some 8
     else none
 
--- any three bytes with `+` in the middle
+-- any three characters with `+` in the middle
 abbrev pub isMensural : List ℕ → Bool
-isMensural xs = eqb (length xs) 3 && eqb (getD xs 1 0) (code "+")
+isMensural xs = eqb (charactersIn xs) 3 && eqb (getD xs (characterSize xs) 0) (code "+")
 
 -- they read as if it were `-`
 unfoldable pub clefOf : List ℕ → Clef
-clefOf xs = if isMensural xs then record { clef = clefNamed (set xs 1 (code "-")); mensural = true } else record { clef = clefNamed xs; mensural = false }
+clefOf xs = if isMensural xs then record { clef = clefNamed (set xs (characterSize xs) (code "-")); mensural = true } else record { clef = clefNamed xs; mensural = false }
 
 -- ---- key
 
@@ -86,7 +87,7 @@ lettersFrom s (b ∷ bs) = if isNamed s b then b ∷ lettersFrom (signAfter s b)
 abbrev pub isExpected : Option ℤ → ℕ → Bool
 isExpected s b = (eqb b (code "x") || eqb b (code "b")) || eqb b 32 || isNamed s b
 
--- any other byte, a letter before any sign too, gives d6
+-- any other character, a letter before any sign too, gives d6: none of its bytes is expected
 abbrev pub allExpected : Option ℤ → List ℕ → Bool
 allExpected s [] = true
 allExpected s (b ∷ bs) = isExpected s b && allExpected (signAfter s b) bs

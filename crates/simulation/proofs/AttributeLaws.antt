@@ -10,6 +10,7 @@ use lib.IntN.{ℤ}
 use lib.ListN.{set}
 use lib.Dec.{eqb, ltb}
 use borrow.Author.Tests.{ne-eqb, eqb-false}
+use Rattle.rules.specs.Characters.{characterSize}
 use Rattle.rules.specs.Values.{Clef, Meter, clefNamed, isMensural, clefOf, keyOf, plainMeter, meterOf}
 use Rattle.rules.specs.Records.{_or_, given, isEmpty}
 use Rattle.rules.specs.Rules as rules
@@ -43,7 +44,7 @@ clef-named xs = search pick-nonzero depth 12
 -- 'read as if it were `-`'
 clef-of : (xs : List ℕ) → Nonzero (clefOf xs .clef)
 unfolding clefOf
-clef-of xs = pick (λ (c : Clef). Nonzero (c .clef)) (isMensural xs) _ _ (clef-named (set xs 1 (code "-"))) (clef-named xs)
+clef-of xs = pick (λ (c : Clef). Nonzero (c .clef)) (isMensural xs) _ _ (clef-named (set xs (characterSize xs) (code "-"))) (clef-named xs)
 
 -- a meter's denominator isn't 0
 abbrev Metered : Option Meter → Type 0

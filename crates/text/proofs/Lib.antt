@@ -1,10 +1,10 @@
 pub mod BoolLaws
-pub mod RunLaws
 pub mod BeginsLaws
 pub mod CountLaws
 pub mod PartLaws
 pub mod TrimLaws
 pub mod TokenLaws
+pub mod PlaceLaws
 pub mod FieldLaws
 pub mod KeyLaws
 pub mod WalkLaws

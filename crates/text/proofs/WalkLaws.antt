@@ -7,12 +7,12 @@ use mathlib.Core.List.{List, [], _∷_}
 use lib.Dec.{eqb}
 use lib.ListN.{length, getD, take, drop, length-drop, drop-of-length-le}
 use lib.Seq.{drop-drop}
-use Rattle.rules.specs.Text.{trim}
+use Rattle.rules.specs.Characters.{begun, charactersIn, trim}
 use Rattle.rules.specs.Cut.{tokenSize}
 use Rattle.rules.specs.Tokens.{Item, itemAt, itemsAfter}
 use Rattle.rules.specs.Fields.{Line, lineSize, lineAt, linesAfter}
 use Rattle.text.specs.Parts.{partAt}
-use Rattle.text.proofs.RunLaws.{run-within}
+use Rattle.rules.proofs.Runs.{run-within}
 use Rattle.text.proofs.PartLaws.{next-element}
 use Rattle.text.proofs.TokenLaws.{token-some}
 
@@ -22,12 +22,15 @@ none-more n = omega arith
 one-more : (n j : ℕ) → n + 1 + j ≡ n + suc j
 one-more n j = omega arith
 
--- skipping bytes is dropping them
-items-skip : (j p o : ℕ) (xs : List ℕ) (e : List Item) → itemsAfter j p o xs e ≡ itemsAfter 0 (p + j) (o + j) (drop j xs) e
-unfolding itemsAfter
+-- skipping bytes is dropping them, with the characters that they begin
+items-skip : (j p o : ℕ) (xs : List ℕ) (e : List Item) → itemsAfter j p o xs e ≡ itemsAfter 0 (p + charactersIn (take j xs)) (o + j) (drop j xs) e
+unfolding itemsAfter charactersIn
 items-skip zero p o xs e = λ i. itemsAfter 0 (none-more p i) (none-more o i) xs e
 items-skip (suc j) p o [] e = refl
-items-skip (suc j) p o (x ∷ xs) e = items-skip j (p + 1) (o + 1) xs e ∙ (λ i. itemsAfter 0 (one-more p j i) (one-more o j i) (drop j xs) e)
+items-skip (suc j) p o (x ∷ xs) e = items-skip j (p + begun x) (o + 1) xs e ∙ (λ i. itemsAfter 0 (place i) (one-more o j i) (drop j xs) e)
+  where
+    place : p + begun x + charactersIn (take j xs) ≡ p + (begun x + charactersIn (take j xs))
+    place = omega arith
 
 lines-skip : (j n o : ℕ) (xs : List ℕ) (e : List Line) → linesAfter j n o xs e ≡ linesAfter 0 n (o + j) (drop j xs) e
 unfolding linesAfter
@@ -43,8 +46,8 @@ module _ (text : List ℕ) (at : ℕ) where
   module _ (h : at < length text) (p o : ℕ) (e : List Item) where
     -- one token is one element more
     pub items-step : itemsAfter 0 p o (drop at text) e
-        ≡ itemsAfter 0 (p + tokenSize (drop at text)) (o + tokenSize (drop at text)) (drop (at + tokenSize (drop at text)) text) (tokenAt p o ∷ e)
-    items-step = first ∙ items-skip (size - 1) (p + 1) (o + 1) (drop (at + 1) text) (tokenAt p o ∷ e) ∙ (λ i. itemsAfter 0 (sum p i) (sum o i) (rest i) (tokenAt p o ∷ e))
+        ≡ itemsAfter 0 (p + 1 + charactersIn (take (tokenSize (drop at text) - 1) (drop (at + 1) text))) (o + tokenSize (drop at text)) (drop (at + tokenSize (drop at text)) text) (tokenAt p o ∷ e)
+    items-step = first ∙ items-skip (size - 1) (p + 1) (o + 1) (drop (at + 1) text) (tokenAt p o ∷ e) ∙ (λ i. itemsAfter 0 (p + 1 + charactersIn (take (size - 1) (drop (at + 1) text))) (sum o i) (rest i) (tokenAt p o ∷ e))
       where
         size : ℕ
         size = tokenSize (drop at text)

@@ -1,18 +1,21 @@
 -- The classes of bytes, by the tests of document 01. Assumes nothing.
 use Prim.Native.Nat.{ℕ}
-use mathlib.Core.Bool.{Bool, not}
-use lib.Dec.{eqb}
-use Rattle.rules.specs.Text.{isBlank, isDigit, isAlphabetic}
-use Rattle.rules.specs.Cut.{isDuration, isClefByte, isKeyByte, isMeterByte}
+use mathlib.Core.Bool.{Bool, not, _&&_}
+use lib.Dec.{eqb, ltb}
+use Rattle.rules.specs.Text.{isDigit, isAlphabetic}
+use Rattle.rules.specs.Cut.{isDuration, isKeyByte, isMeterByte}
+use Rattle.character.specs.Blanks.{isLowBlank}
 use Rattle.text.specs.declared.Class.{Class}
-use Rattle.text.specs.declared.Class.the-variants.{Same, Except, Blanks, NonBlanks, Digits, Durations, KeyBytes, MeterBytes, Alphabetic}
+use Rattle.text.specs.declared.Class.the-variants.{Same, Except, Digits, Durations, KeyBytes, MeterBytes, Alphabetic}
+
+-- a non-blank below 128
+abbrev pub isPlain : ℕ → Bool
+isPlain b = ltb b 128 && not (isLowBlank b)
 
 -- the bytes of each class
 abbrev pub inClass : Class → ℕ → Bool
 inClass (Same k) b = eqb b k
 inClass (Except k) b = not (eqb b k)
-inClass Blanks b = isBlank b
-inClass NonBlanks b = isClefByte b
 inClass Digits b = isDigit b
 inClass Durations b = isDuration b
 inClass KeyBytes b = isKeyByte b

@@ -3,7 +3,8 @@ use Prim.Native.Nat.{ℕ, _-_, _≤_}
 use mathlib.Core.Path.{_≡_}
 use mathlib.Core.List.{List}
 use lib.ListN.{take, drop}
-use Rattle.rules.specs.Text.{Part, trim}
+use Rattle.rules.specs.Text.{Part}
+use Rattle.rules.specs.Characters.{trim}
 use Rattle.text.specs.declared.Span.{Span}
 
 -- the part of the text from one offset to another

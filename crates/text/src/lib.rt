@@ -4,19 +4,25 @@ mod number;
 pub use number::Count;
 ghost use mathlib.Core.Path.{_≡_};
 ghost use Prim.Native.Nat.{_+_, _<_, _≤_};
-ghost use mathlib.Core.Bool.{cond, not};
+ghost use mathlib.Core.Bool.{cond, true};
 ghost use mathlib.Core.List.{[], _∷_};
-ghost use lib.ListN.{length, take, drop};
-ghost use lib.Dec.{leb, eqb};
-ghost use Rattle.rules.specs.Text.{bytes, among, isBlank, isDigit, isNoteLetter, isAlphabetic, runLength, every, has, begins, isText, trimEnd};
-ghost use Rattle.rules.specs.Cut.{isClefByte, longestOf, tokenSize};
+ghost use lib.ListN.{length, getD, drop};
+ghost use lib.Dec.{eqb};
+ghost use Rattle.rules.specs.Text.{bytes, among, isDigit, isNoteLetter, isAlphabetic, runLength, every, begins, isText};
+ghost use Rattle.rules.specs.Characters.{nonBlanksSize};
+ghost use Rattle.rules.specs.Cut.{longestOf, tokenSize};
 ghost use Rattle.rules.specs.Values.{countOf};
 ghost use Rattle.rules.specs.Fields.{lineSize, keySize, isField};
-ghost use Rattle.text.specs.Classes.{inClass};
+ghost use Rattle.text.specs.Classes.{isPlain, inClass};
 ghost use Rattle.text.specs.Counts.{numberIn};
 ghost use Rattle.text.specs.Runs.{SameEnd};
 ghost use Rattle.text.specs.Parts.{Trimmed};
 ghost use Rattle.text.specs.Keys.{fieldKeyOf};
+use character::blanks_size;
+use character::character_size;
+use character::is_low_blank;
+use character::non_blanks_size;
+use character::trimmed_size;
 use limits::Pae;
 
 // How many bytes of a run are tested one by one before chunks are.
@@ -29,8 +35,6 @@ const CHUNK: usize = 96;
 pub enum Class {
     Same(u8),
     Except(u8),
-    Blanks,
-    NonBlanks,
     Digits,
     Durations,
     KeyBytes,
@@ -54,12 +58,6 @@ pub enum FieldKey {
 }
 
 // ---- classes of bytes
-
-pub fn is_blank(b: u8) -> bool
-    ensures { λ r. ⌜ r ≡ isBlank b ⌝ }
-{
-    ((9 <= b) & (b <= 13)) | (b == 32)
-}
 
 pub fn is_digit(b: u8) -> bool
     ensures { λ r. ⌜ r ≡ isDigit b ⌝ }
@@ -86,8 +84,6 @@ fn in_class(class: Class, b: u8) -> bool
     match class {
         Class::Same(k) => b == k,
         Class::Except(k) => !(b == k),
-        Class::Blanks => is_blank(b),
-        Class::NonBlanks => !is_blank(b),
         Class::Digits => is_digit(b),
         Class::Durations => is_digit(b) | (b == b'.'),
         Class::KeyBytes => {
@@ -184,36 +180,6 @@ pub fn repeated(rest: &[u8], k: u8) -> usize
     i
 }
 
-// Whether the text is blank throughout.
-pub fn is_blank_text(text: &[u8]) -> bool
-    ensures { λ r. ⌜ r ≡ every isBlank (now (text .entry)) ⌝ }
-{
-    run(text, Class::Blanks) == text.len()
-}
-
-// The larger of two bytes.
-fn larger(a: u8, b: u8) -> u8
-    ensures { λ r. ⌜ r ≡ cond (leb a b) b a ⌝ }
-{
-    if a <= b {
-        return b;
-    }
-    a
-}
-
-// Whether every byte is below 128.
-pub fn is_ascii(text: &[u8]) -> bool
-    ensures { λ r. ⌜ r ≡ not (has (leb 128) (now (text .entry))) ⌝ }
-{
-    let mut most: u8 = 0;
-    let mut i = 0;
-    while i < text.len() {
-        most = larger(most, text[i]);
-        i += 1;
-    }
-    most < 128
-}
-
 // ---- texts
 
 // Whether `rest` begins with `with`.
@@ -273,15 +239,24 @@ pub fn count(digits: &[u8]) -> Count
 
 // ---- tokens
 
-// The first byte of `rest` with up to 3 non-blanks after it.
+// Whether the byte is a non-blank below 128.
+fn is_plain(b: u8) -> bool
+    ensures { λ r. ⌜ r ≡ isPlain b ⌝ }
+{
+    (b < 128) & !is_low_blank(b)
+}
+
+// The first byte of `rest` with up to 3 non-blank characters after it.
 fn clef_size(rest: &[u8]) -> usize
     requires { ⌜ 0 < length (now rest) ⌝ }
-    ensures { λ r. ⌜ r ≡ 1 + runLength isClefByte (take 3 (drop 1 (now (rest .entry)))) ⌝ }
+    ensures { λ r. ⌜ r ≡ 1 + nonBlanksSize 3 (drop 1 (now (rest .entry))) ⌝ }
 {
-    if 4 < rest.len() {
-        return run_end(&rest[..4], 1, Class::NonBlanks);
+    if 3 < rest.len() {
+        if is_plain(rest[1]) & is_plain(rest[2]) & is_plain(rest[3]) {
+            return 4;
+        }
     }
-    run_end(rest, 1, Class::NonBlanks)
+    1 + non_blanks_size(&rest[1..], 3)
 }
 
 // The length of the first of two texts that `rest` begins with, else 1.
@@ -324,6 +299,9 @@ fn token_size(rest: &[u8]) -> usize
     ensures { λ r. ⌜ r ≡ tokenSize (now (rest .entry)) ⌝ }
 {
     let b = rest[0];
+    if 128 <= b {
+        return character_size(rest);
+    }
     if is_repeated(b) {
         return run_end(rest, 1, Class::Same(b));
     }
@@ -354,30 +332,57 @@ pub fn token_end(text: &[u8], at: usize) -> usize
 
 // ---- parts
 
-// The size of the part without the blanks at its end.
-fn trimmed_size(part: &[u8]) -> usize
-    ensures { λ r. ⌜ r ≡ length (trimEnd (now (part .entry))) ⌝ }
-{
-    let mut n = part.len();
-    while 0 < n {
-        if !is_blank(part[n - 1]) {
-            return n;
-        }
-        n -= 1;
-    }
-    n
-}
-
 // The part of the text between two offsets without the blanks at its start and at its end.
-pub fn trim(text: &[u8], start: usize, end: usize) -> Span
+fn wide_trim(text: &[u8], start: usize, end: usize) -> Span
     requires { ⌜ (start ≤ end) × (end ≤ length (now text)) ⌝ }
     ensures { λ r. ⌜ Trimmed (now (text .entry)) start end r ⌝ }
 {
-    let first = start + run(&text[start..end], Class::Blanks);
+    let first = start + blanks_size(&text[start..end]);
     let size = trimmed_size(&text[first..end]);
     Span {
         start: first,
         end: first + size,
+    }
+}
+
+// The same of a part that starts with a non-blank below 128: quick where such a one is also its last.
+fn trim_last(text: &[u8], start: usize, end: usize) -> Span
+    requires { ⌜ (start < end) × (end ≤ length (now text)) × (isPlain (getD (now text) start 0) ≡ true) ⌝ }
+    ensures { λ r. ⌜ Trimmed (now (text .entry)) start end r ⌝ }
+{
+    let mut last = end;
+    while start < last {
+        let b = text[last - 1];
+        if 128 <= b {
+            return wide_trim(text, start, last);
+        }
+        if !is_low_blank(b) {
+            return Span { start, end: last };
+        }
+        last -= 1;
+    }
+    Span { start, end: last }
+}
+
+// The same, quick where bytes below 128 stand at the start and at the end.
+pub fn trim(text: &[u8], start: usize, end: usize) -> Span
+    requires { ⌜ (start ≤ end) × (end ≤ length (now text)) ⌝ }
+    ensures { λ r. ⌜ Trimmed (now (text .entry)) start end r ⌝ }
+{
+    let mut first = start;
+    while first < end {
+        let b = text[first];
+        if 128 <= b {
+            return wide_trim(text, first, end);
+        }
+        if !is_low_blank(b) {
+            return trim_last(text, first, end);
+        }
+        first += 1;
+    }
+    Span {
+        start: first,
+        end: first,
     }
 }
 

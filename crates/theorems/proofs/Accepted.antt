@@ -1,9 +1,12 @@
--- A reading with the number 0 is a finished one: no refusal has the number 0. Assumes nothing.
+-- A reading with the number 0 is a finished one, as no refusal has the number 0; no check of its text fails. Assumes nothing.
 use Prim.Native.Nat.{ℕ, _<_}
 use mathlib.Core.Path.{_≡_, refl, ap}
+use mathlib.Core.Bool.{Bool, true, false, cond}
 use mathlib.Core.Option.{Option, none, some}
 use mathlib.Core.List.{List, [], _∷_}
 use native.Mathlib.Omega.{arith}
+use borrow.Author.Tests.{not-false}
+use Rattle.rules.specs.Characters.{isFormed}
 use Rattle.rules.specs.Tokens.{Item}
 use Rattle.rules.specs.Records.{_or_, given, isEmpty}
 use Rattle.rules.specs.Rules.{stateAfter, stored, Attributes}
@@ -64,3 +67,34 @@ not-refused text lent = go (refusalOf text (lentRecords lent)) (refuses text (le
 pub accepted-is : (text : List ℕ) (lent : Lent) → reading text lent .number ≡ 0 → reading text lent ≡ accepted text lent
 unfolding reading
 accepted-is text lent e = ap (λ r. given r (accepted text lent) (refused lent)) (not-refused text lent e)
+
+-- ---- no check fails
+
+pub or-none : {A : Type 0} (a b : Option A) → a or b ≡ none → (a ≡ none) × (b ≡ none)
+or-none none b e = (refl, e)
+or-none (some a) b e = absurd (none-some e)
+  where
+    none-some : some a ≡ none → ⊥
+    none-some e = let z : _≡_ {A = ℕ} 0 1 = cc in absurd (omega arith)
+
+pub given-none : {A B : Type 0} (o : Option A) (f : A → B) → given o none (λ a. some (f a)) ≡ none → o ≡ none
+given-none none f e = refl
+given-none (some a) f e = let z : _≡_ {A = ℕ} 0 1 = cc in absurd (omega arith)
+
+-- no check fails
+pub passed : (cs : List Check) → firstFailing cs ≡ none → All (λ c. c .1 ≡ false) cs
+passed [] e = tt
+passed (c ∷ cs) e = go (c .1) (λ r. passed cs r) e
+  where
+    go : (b : Bool) → (firstFailing cs ≡ none → All (λ c. c .1 ≡ false) cs) → cond b (some (c .0)) (firstFailing cs) ≡ none → (b ≡ false) × All (λ c. c .1 ≡ false) cs
+    go true r e = let z : _≡_ {A = ℕ} 0 1 = cc in absurd (omega arith)
+    go false r e = (refl, r e)
+
+-- ---- of an accepted text
+
+-- its text checks pass, so it is well-formed
+pub text-formed : (text : List ℕ) (lent : Lent) → reading text lent .number ≡ 0 → isFormed text ≡ true
+unfolding refusalOf
+text-formed text lent e =
+    let checks : List Check = textChecks text (lentRecords lent) in
+    not-false (isFormed text) (passed checks (given-none (firstFailing checks) (λ n. refusal n 0) (or-none (textRefusal text (lentRecords lent)) _ (not-refused text lent e) .0)) .1 .1 .0)

@@ -8,7 +8,7 @@ use mathlib.Core.List.{List, [], _∷_, _++_, map, append-nil, append-assoc, map
 use native.Mathlib.Omega.{arith}
 use mir.Facts.{no-eqb}
 use lib.Dec.{T, eqb, eqb-refl}
-use Rattle.rules.specs.Text.{has}
+use Rattle.rules.specs.Text.{Part}
 use Rattle.rules.specs.Tokens.{latestPlace, Ordered, letterIn, isBarline, rightIn, Token, Item, clef, key, meter, octave, duration, accidental, letter, chord, rest, barline, grace, graceGroup, figure, marking, other}
 use Rattle.rules.specs.Records.{notesOf, Pitch, Heading, Notations, Note}
 use Rattle.rules.specs.Rules.{close, pitchOf, endsInNote, joins, openedHeading, openedNote, stores, addPitch, joined, notationsNext, withNotations, step, stateAfter, stored, barsAtEnd, State, Attributes}
@@ -51,7 +51,7 @@ abbrev letterAt : ℕ → ℕ → ℕ → ℕ → Item
 letterAt p o z n = record { place = p; offset = o; size = z; token = letter n }
 
 -- a letter of the data is such a token
-letter-stands : (line : List ℕ) (all : List Item) → Cut line all → (l : Letter line all) → all ≡ l .later ++ letterAt (l .item .place) (l .item .offset) (l .item .size) (l .step) ∷ l .before
+letter-stands : (line : Part) (all : List Item) → Cut line all → (l : Letter line all) → all ≡ l .later ++ letterAt (l .item .place) (l .item .offset) (l .item .size) (l .step) ∷ l .before
 letter-stands line all h l =
     let cut : Says (l .item .token) (textOf line (l .item)) = cut-at line (l .later) (l .item) (l .before) (subst (Cut line) (l .stands) h) in
     l .stands ∙ λ i. l .later ++ record { place = l .item .place; offset = l .item .offset; size = l .item .size; token = letter-is (l .item .token) (l .step) (cut .letter ∙ l .isLetter) i } ∷ l .before
@@ -63,7 +63,7 @@ headings l = map (λ r. r .heading) l
 abbrev pub headingsOf : ℕ → List Note → List Heading
 headingsOf place notes = keep (λ h. eqb (h .place) place) (headings notes)
 
-module _ (k : Attributes) (line : List ℕ) where
+module _ (k : Attributes) (line : Part) where
   -- a pitch belongs to the letter token whose place it holds, and is what the look-back says of it
   pub record Heard (all : List Item) (q : Pitch) : Type 0 where
     pub letter : Letter line all

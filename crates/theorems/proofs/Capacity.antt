@@ -11,38 +11,16 @@ use lib.Dec.{eqb, leb, ltb}
 use lib.ListN.{length, take}
 use Rattle.rules.specs.Limits.{pitchCapacity, markCapacity}
 use Rattle.rules.specs.Tokens.{letterIn, Marking, beamOpen, beamClose, groupOpen, groupClose, groupCount, tie, trill, Item}
-use Rattle.rules.specs.Records.{_or_, isSome, given, Notations, Note}
+use Rattle.rules.specs.Records.{isSome, given, Notations, Note}
 use Rattle.rules.specs.Rules.{pitchOf, endsInNote, joins, isNonGrace, nonGraceIn, notesFrom, withTieStart, withTuplet, withMark, Closing, nothing, fermata, tuplet, tooFew, tupletOf, closing, closed, closingOf, groupClosed, marked, withNotations, stateAfter, stored, Group, State, Attributes}
 use Rattle.rules.specs.Fields.{dataOf}
-use Rattle.rules.specs.Refusals.{Check, firstFailing, textRefusal, isFull, isMarkedFull, lastNonGrace, isFermata, overMarks, tokenChecks, tokenRefusal, tokensRefusal, refusalOf, LentRecords}
+use Rattle.rules.specs.Refusals.{textRefusal, isFull, isMarkedFull, lastNonGrace, isFermata, overMarks, tokenChecks, tokenRefusal, tokensRefusal, refusalOf, LentRecords}
 use Rattle.rules.specs.Reading.{lentRecords, attributesOf, tokensOf, recordsOf, reading, Lent}
 use Rattle.rules.specs.Agreement.{All}
 use Rattle.theorems.proofs.Lists.{cond-ind, given-ind}
 use Rattle.theorems.proofs.Kept.{Kept, kept-all, KeptPitches, of-pitches}
 use Rattle.theorems.proofs.Agreement.{at-end}
-use Rattle.theorems.proofs.Accepted.{not-refused}
-
--- ---- no check fails
-
-or-none : {A : Type 0} (a b : Option A) → a or b ≡ none → (a ≡ none) × (b ≡ none)
-or-none none b e = (refl, e)
-or-none (some a) b e = absurd (none-some e)
-  where
-    none-some : some a ≡ none → ⊥
-    none-some e = let z : _≡_ {A = ℕ} 0 1 = cc in absurd (omega arith)
-
-given-none : {A B : Type 0} (o : Option A) (f : A → B) → given o none (λ a. some (f a)) ≡ none → o ≡ none
-given-none none f e = refl
-given-none (some a) f e = let z : _≡_ {A = ℕ} 0 1 = cc in absurd (omega arith)
-
--- no check fails
-passed : (cs : List Check) → firstFailing cs ≡ none → All (λ c. c .1 ≡ false) cs
-passed [] e = tt
-passed (c ∷ cs) e = go (c .1) (λ r. passed cs r) e
-  where
-    go : (b : Bool) → (firstFailing cs ≡ none → All (λ c. c .1 ≡ false) cs) → cond b (some (c .0)) (firstFailing cs) ≡ none → (b ≡ false) × All (λ c. c .1 ≡ false) cs
-    go true r e = let z : _≡_ {A = ℕ} 0 1 = cc in absurd (omega arith)
-    go false r e = (refl, r e)
+use Rattle.theorems.proofs.Accepted.{not-refused, or-none, given-none, passed}
 
 -- ---- marks in one bar
 
@@ -188,7 +166,7 @@ notes-fit text lent e =
     let k : Attributes = attributesOf text in
     let room : LentRecords = lentRecords lent in
     let passes : Passes room k (tokensOf text) = or-none (tokensRefusal room k (tokensOf text)) _ (or-none (textRefusal text room) _ (not-refused text lent e) .1) .0 in
-    rw (at-end k (dataOf text .bytes) (tokensOf text)) (both (stored (stateAfter k (tokensOf text)))
+    rw (at-end k (dataOf text) (tokensOf text)) (both (stored (stateAfter k (tokensOf text)))
     (kept-all k (Passes room k) (λ e r. length (r .pitches) ≤ pitchCapacity) (of-pitches (pitches-kept room k)) (tokensOf text) passes)
     (kept-all k (Passes room k) (λ e r. Few r) (marks-kept room k) (tokensOf text) passes))
   where

@@ -8,6 +8,7 @@ use mir.Facts.{no-eqb}
 use lib.Dec.{eqb, eqb-refl}
 use lib.IntN.{pos}
 use lib.ListN.{length, length-append, length-map}
+use Rattle.rules.specs.Text.{Part}
 use Rattle.rules.specs.Tokens.{latestPlace, Ordered, isRest, isBarline, figureIn, Figure, figureMark, figureRepeat, barRepeat, Token, Item, clef, key, meter, octave, duration, accidental, letter, chord, rest, barline, grace, graceGroup, figure, marking, other}
 use Rattle.rules.specs.Records.{isSome, given, Heading, Note}
 use Rattle.rules.specs.Rules.{joins, opens, copied, repeated, stores, step, stateAfter, stored, State, Attributes}
@@ -24,7 +25,7 @@ one-if : Bool → ℕ
 one-if b = cond b 1 0
 
 -- the headings with the place of an `f` or `i`
-abbrev pub repeatsAmong : List ℕ → List Item → List Heading → List Heading
+abbrev pub repeatsAmong : Part → List Item → List Heading → List Heading
 repeatsAmong line all hs = keep (λ h. hasRepeat line all (pos (h .place))) hs
 
 -- how many records a token repeats
@@ -58,7 +59,7 @@ copies-count p t s = elim t [ clef c ↦ refl | key k ↦ refl | meter m ↦ ref
     of barRepeat = each (repeated barRepeat s)
 
 -- no token yet has a later place
-none-later : (line : List ℕ) (e : List Item) → Ordered e → (p : ℕ) → latestPlace e < p → hasRepeat line e (pos p) ≡ false
+none-later : (line : Part) (e : List Item) → Ordered e → (p : ℕ) → latestPlace e < p → hasRepeat line e (pos p) ≡ false
 none-later line [] h p l = refl
 none-later line (x ∷ e) h p l = rw (is-false (eqb p (x .place)) (no-eqb apart), none-later line e (h .1) p (omega (arith, h .0))) (and-false (isRepeat (textOf line x)))
   where
@@ -69,7 +70,7 @@ none-later line (x ∷ e) h p l = rw (is-false (eqb p (x .place)) (no-eqb apart)
     and-false true = refl
     and-false false = refl
 
-module _ (k : Attributes) (line : List ℕ) where
+module _ (k : Attributes) (line : Part) where
   -- the stored records are the opened letters, the rests and the copies
   pub count-is : (e : List Item) → Cut line e → length (stored (stateAfter k e)) ≡ openedLetters k line e + restTokens line e + length (repeatsAmong line e (headings (stored (stateAfter k e))))
   unfolding step stateAfter one-if

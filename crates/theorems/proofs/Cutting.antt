@@ -8,10 +8,11 @@ use mathlib.Core.Option.{none, some}
 use mathlib.Core.List.{List, [], _∷_, _++_}
 use native.Mathlib.Omega.{arith}
 use mir.Facts.{no-eqb, leb-yes, eqb-no}
-use lib.Dec.{eqb, leb, eqb→eq}
+use lib.Dec.{eqb, leb, ltb, eqb→eq}
 use lib.ListN.{length, take, drop}
 use lib.Seq.{drop-drop}
-use Rattle.rules.specs.Text.{bytes, among, isBlank, isDigit, isNoteLetter, runLength, begins}
+use Rattle.rules.specs.Text.{bytes, among, isDigit, isNoteLetter, runLength, begins, Part}
+use Rattle.rules.specs.Characters.{characterSize, begun, isBlank}
 use Rattle.rules.specs.Cut.{tokenSize}
 use Rattle.rules.specs.Values.{sharpened, flattened}
 use Rattle.rules.specs.Tokens.{colons, grace, graceGroup, figureMark, figureRepeat, barRepeat, itemAt, itemsAfter, latestPlace, Ordered, Item, Token, tokenOf, accidentalIn, letterIn, graceIn, graceGroupIn, isBarline, isChord, isRest, figureIn}
@@ -38,22 +39,22 @@ pub record Says (t : Token) (text : List ℕ) : Type 0 where
   pub copy : repeatsIn t ≡ isRepeat text
 
 -- places rise from token to token, and each is what its text says
-abbrev pub Cut : List ℕ → List Item → Type 0
+abbrev pub Cut : Part → List Item → Type 0
 Cut line [] = Unit {0}
 Cut line (x ∷ before) = (latestPlace before < x .place) × Cut line before × Says (x .token) (textOf line x)
 
-pub ordered : (line : List ℕ) (e : List Item) → Cut line e → Ordered e
+pub ordered : (line : Part) (e : List Item) → Cut line e → Ordered e
 ordered line [] h = tt
 ordered line (x ∷ e) h = (h .0, ordered line e (h .1))
 
-pub cut-at : (line : List ℕ) (later : List Item) (x : Item) (e : List Item) → Cut line (later ++ x ∷ e) → Says (x .token) (textOf line x)
+pub cut-at : (line : Part) (later : List Item) (x : Item) (e : List Item) → Cut line (later ++ x ∷ e) → Says (x .token) (textOf line x)
 cut-at line [] x e h = h .2
 cut-at line (y ∷ later) x e h = cut-at line later x e (h .1)
 
 -- ---- a token has a byte or more
 
-some-size : (b : ℕ) (bs : List ℕ) → 0 < tokenSize (b ∷ bs)
-unfolding tokenSize
+pub some-size : (b : ℕ) (bs : List ℕ) → 0 < tokenSize (b ∷ bs)
+unfolding tokenSize characterSize
 some-size b bs =
     let P : ℕ → Type 0 = λ n. 0 < n in
     cond-ind P (among (bytes "',xb") b) (omega arith)
@@ -65,7 +66,7 @@ some-size b bs =
     (cond-ind P (eqb b (code ":")) (cond-ind P (begins (bytes "://:") (b ∷ bs)) (omega arith) (cond-ind P (begins (bytes "://") (b ∷ bs)) (omega arith) (omega arith)))
     (cond-ind P (eqb b (code "/")) (cond-ind P (begins (bytes "//:") (b ∷ bs)) (omega arith) (cond-ind P (begins (bytes "//") (b ∷ bs)) (omega arith) (omega arith)))
     (cond-ind P (eqb b (code "q")) (cond-ind P (begins (bytes "qq") (b ∷ bs)) (omega arith) (omega arith))
-    (omega arith)))))))))
+    (cond-ind P (ltb b 128) (omega arith) (omega arith))))))))))
 
 -- ---- the tokens whose text has more than one byte
 
@@ -226,7 +227,7 @@ quiet-token b cs n = rw (n .0, n .1 .0, n .1 .1 .0, n .1 .1 .1 .0, n .1 .1 .1 .1
     (cond-ind Quiet (eqb b (code "+")) record { letter = refl; sign = refl; grace = refl; group = refl; bar = refl; caret = refl; dash = refl; copy = refl }
     (cond-ind Quiet (eqb b (code "t")) record { letter = refl; sign = refl; grace = refl; group = refl; bar = refl; caret = refl; dash = refl; copy = refl }
     (cond-ind Quiet (eqb b (code "=")) record { letter = refl; sign = refl; grace = refl; group = refl; bar = refl; caret = refl; dash = refl; copy = refl }
-    (cond-ind Quiet (isBlank b) record { letter = refl; sign = refl; grace = refl; group = refl; bar = refl; caret = refl; dash = refl; copy = refl }
+    (cond-ind Quiet (isBlank (b ∷ cs)) record { letter = refl; sign = refl; grace = refl; group = refl; bar = refl; caret = refl; dash = refl; copy = refl }
     record { letter = refl; sign = refl; grace = refl; group = refl; bar = refl; caret = refl; dash = refl; copy = refl }))))))))))))))))
 
 other-is : (b : ℕ) (cs : List ℕ) → All (λ n. eqb b n ≡ false) known → Says (tokenOf b cs) (b ∷ cs)
@@ -244,7 +245,7 @@ other-is b cs n =
     }
 
 says : (b : ℕ) (bs : List ℕ) → Says (tokenOf b (tail b bs)) (b ∷ tail b bs)
-unfolding tokenSize tokenOf
+unfolding tokenSize characterSize tokenOf
 says b bs = go (one-of b known)
   where
     go : Some (λ n. n ≡ b) known ⊎ All (λ n. eqb b n ≡ false) known → Says (tokenOf b (tail b bs)) (b ∷ tail b bs)
@@ -255,25 +256,32 @@ says b bs = go (one-of b known)
 -- ---- the data's tokens
 
 -- a token's text is its first byte and what follows
-text-is : (line : List ℕ) (place offset b : ℕ) (bs : List ℕ) → b ∷ bs ≡ drop place line → b ∷ tail b bs ≡ textOf line (itemAt (place + 1) offset b bs)
+text-is : (line : Part) (place offset b : ℕ) (bs : List ℕ) → b ∷ bs ≡ drop (offset - line .start) (line .bytes) → b ∷ tail b bs ≡ textOf line (itemAt place offset b bs)
 unfolding itemAt
-text-is line place offset b bs t = first (tokenSize (b ∷ bs)) (some-size b bs) ∙ λ i. take (tokenSize (b ∷ bs)) ((t ∙ ap (λ n. drop n line) q) i)
+text-is line place offset b bs t = first (tokenSize (b ∷ bs)) (some-size b bs) ∙ ap (take (tokenSize (b ∷ bs))) t
   where
     first : (n : ℕ) → 0 < n → b ∷ take (n - 1) bs ≡ take n (b ∷ bs)
     first zero h = absurd (omega arith)
     first (suc n) h = let e : suc n - 1 ≡ n = omega arith in ap (λ m. b ∷ take m bs) e
 
-    q : place ≡ place + 1 - 1
-    q = omega arith
+-- what stands behind the first byte
+next-is : (line : Part) (offset b : ℕ) (bs : List ℕ) → line .start ≤ offset → b ∷ bs ≡ drop (offset - line .start) (line .bytes) → bs ≡ drop (offset + 1 - line .start) (line .bytes)
+next-is line offset b bs s t = ap (drop 1) t ∙ drop-drop 1 (offset - line .start) (line .bytes) ∙ ap (λ n. drop n (line .bytes)) q
+  where
+    q : offset - line .start + 1 ≡ offset + 1 - line .start
+    q = omega (arith, s)
 
-cut-tokens : (line : List ℕ) (skip place offset : ℕ) (text : List ℕ) (before : List Item) → text ≡ drop place line → latestPlace before < place + 1 → Cut line before → Cut line (itemsAfter skip (place + 1) offset text before)
+cut-tokens : (line : Part) (skip place offset : ℕ) (text : List ℕ) (before : List Item) → text ≡ drop (offset - line .start) (line .bytes) → line .start ≤ offset → latestPlace before < place → Cut line before → Cut line (itemsAfter skip place offset text before)
 unfolding itemsAfter itemAt
-cut-tokens line skip place offset [] before t h o = o
-cut-tokens line zero place offset (b ∷ bs) before t h o =
-    cut-tokens line (tokenSize (b ∷ bs) - 1) (place + 1) (offset + 1) bs (itemAt (place + 1) offset b bs ∷ before) (ap (drop 1) t ∙ drop-drop 1 place line) (omega arith)
+cut-tokens line skip place offset [] before t s h o = o
+cut-tokens line zero place offset (b ∷ bs) before t s h o =
+    cut-tokens line (tokenSize (b ∷ bs) - 1) (place + 1) (offset + 1) bs (itemAt place offset b bs ∷ before) (next-is line offset b bs s t) (omega (arith, s)) (omega arith)
     (h, o, subst (Says (tokenOf b (tail b bs))) (text-is line place offset b bs t) (says b bs))
-cut-tokens line (suc skip) place offset (b ∷ bs) before t h o = cut-tokens line skip (place + 1) (offset + 1) bs before (ap (drop 1) t ∙ drop-drop 1 place line) (omega (arith, h)) o
+cut-tokens line (suc skip) place offset (b ∷ bs) before t s h o = cut-tokens line skip (place + begun b) (offset + 1) bs before (next-is line offset b bs s t) (omega (arith, s)) (omega (arith, h)) o
 
 -- the tokens of a text are cut from its data
-pub tokens-cut : (text : List ℕ) → Cut (dataOf text .bytes) (tokensOf text)
-tokens-cut text = cut-tokens (dataOf text .bytes) 0 0 (dataOf text .start) (dataOf text .bytes) [] refl (omega arith) tt
+pub tokens-cut : (text : List ℕ) → Cut (dataOf text) (tokensOf text)
+tokens-cut text = cut-tokens (dataOf text) 0 1 (dataOf text .start) (dataOf text .bytes) [] (ap (λ n. drop n (dataOf text .bytes)) q) (omega arith) (omega arith) tt
+  where
+    q : 0 ≡ dataOf text .start - dataOf text .start
+    q = omega arith

@@ -5,6 +5,7 @@ use mathlib.Core.Bool.{Bool, true, false, cond}
 use mathlib.Core.List.{List, [], _∷_, map}
 use lib.IntN.{ℤ, pos}
 use lib.ListN.{length, length-map}
+use Rattle.rules.specs.Text.{Part}
 use Rattle.rules.specs.Tokens.{Item}
 use Rattle.rules.specs.Records.{Heading, Note}
 use Rattle.rules.specs.Rules.{Attributes}
@@ -16,16 +17,18 @@ use Rattle.rules.specs.LookBack.{keep, backJoins}
 use Rattle.rules.specs.Agreement.{hasRepeat, openedLetters, restTokens, copiesIn, Agreement, Demand3}
 use Rattle.theorems.proofs.Lists.{all-imp, all-map, some-map, keep-map}
 use Rattle.theorems.proofs.Cutting.{tokens-cut}
+use Rattle.theorems.proofs.TokenPlaces.{token-places}
+use Rattle.theorems.proofs.DataFormed.{data-formed}
 use Rattle.theorems.proofs.Agreement.{headings, Agreed, agreed, at-end}
 use Rattle.theorems.proofs.Count.{repeatsAmong, count-is}
 use Rattle.theorems.proofs.Cells.{pitchStored, headingStored, noteStored, cells-back}
-use Rattle.theorems.proofs.Accepted.{accepted-is}
+use Rattle.theorems.proofs.Accepted.{accepted-is, text-formed}
 use Rattle.theorems.proofs.Capacity.{notes-fit}
 
 -- ---- the whole
 
 -- what agrees as notes agrees as they stand in the cells
-stored-agrees : (k : Attributes) (line : List ℕ) (all : List Item) (notes : List Note) → Agreed k line all notes → Agreement k line all (map noteStored notes)
+stored-agrees : (k : Attributes) (line : Part) (all : List Item) (notes : List Note) → Agreed k line all notes → Agreement k line all (map noteStored notes)
 stored-agrees k line all notes a = record {
   everyLetter = λ l. some-map noteStored _ (λ r. some-map pitchStored _ (λ q e. ap pitchStored e) (r .pitches)) notes (a .has l);
   belongs = all-map noteStored _ notes (all-imp (λ r h. all-map pitchStored _ (r .pitches) (all-imp (λ q g. record { letter = g .letter; place = ap pos (g .place); read = ap pitchStored (g .read) }) (r .pitches) h)) notes (a .belongs));
@@ -42,16 +45,17 @@ stored-agrees k line all notes a = record {
     joins-or false h = refl
 
 -- the copies among the notes, as they stand in the cells
-copies-same : (line : List ℕ) (all : List Item) (notes : List Note) → length (repeatsAmong line all (headings notes)) ≡ length (copiesIn line all (map noteStored notes))
+copies-same : (line : Part) (all : List Item) (notes : List Note) → length (repeatsAmong line all (headings notes)) ≡ length (copiesIn line all (map noteStored notes))
 copies-same line all notes =
     let copies : List Note = keep (λ r. hasRepeat line all (pos (r .heading .place))) notes in
     ap length (keep-map (λ (r : Note). r .heading) _ notes) ∙ length-map copies (λ r. r .heading)
     ∙ sym (ap length (keep-map noteStored _ notes) ∙ length-map copies noteStored)
 
 -- demand 3, whole: for every text and every lent size, if the reading is accepted, then the first records in the note cells, as counted, agree with the look-back on every letter,
--- and their number is opened letters plus rests plus copies
+-- their number is opened letters plus rests plus copies, and places count characters
 pub demand3 : (text : List ℕ) (lent : Lent) → reading text lent .number ≡ 0 → Demand3 text (reading text lent .notes) (reading text lent .noteCells)
 demand3 text lent e = rw (accepted-is text lent e) (record {
+  placed = token-places line (data-formed text (text-formed text lent e));
   agrees = rw back (stored-agrees k line all (recordsOf text) (agreed k line all (tokens-cut text)));
   counted = rw back (count ∙ ap (λ n. openedLetters k line all + restTokens line all + n) (copies-same line all (recordsOf text)));
 })
@@ -59,8 +63,8 @@ demand3 text lent e = rw (accepted-is text lent e) (record {
     k : Attributes
     k = attributesOf text
 
-    line : List ℕ
-    line = dataOf text .bytes
+    line : Part
+    line = dataOf text
 
     all : List Item
     all = tokensOf text

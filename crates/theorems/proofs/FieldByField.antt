@@ -7,6 +7,7 @@ use mathlib.Core.List.{List, [], _∷_}
 use lib.IntN.{ℤ, pos}
 use lib.ListN.{getD}
 use lib.Dec.{eqb, ltb}
+use Rattle.rules.specs.Text.{Part}
 use Rattle.rules.specs.Values.{Key, Length, eighth, element}
 use Rattle.rules.specs.Tokens.{keyIn, octaveIn, durationIn, letterIn, isBarline, Token, Item}
 use Rattle.rules.specs.Records.{_or_, isSome, given, isEmpty, Pitch, Heading, Note}
@@ -67,7 +68,7 @@ length-is none value = refl
 length-is (some true) value = refl
 length-is (some false) value = refl
 
-module _ (k : Attributes) (line : List ℕ) where
+module _ (k : Attributes) (line : Part) where
   -- a letter's pitch and its record's heading, as the look-back gives them
   abbrev pub backPitch : List Item → ℕ → ℕ → Pitch
   backPitch before place step = record { place = place; step = step; octave = backOctave before; alter = backAlter k line before step }

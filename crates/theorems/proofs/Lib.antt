@@ -1,6 +1,9 @@
 -- Theorems about the definitions of `rules`.
 pub mod Lists
+pub mod Characters
 pub mod Cutting
+pub mod TokenPlaces
+pub mod DataFormed
 pub mod Places
 pub mod FieldByField
 pub mod Kept

@@ -1,7 +1,7 @@
 -- What the proofs need of lists and of branches. Assumes nothing.
 use Prim.Native.Nat.{ℕ, zero, suc}
 use mathlib.Core.Path.{_≡_, refl, ap}
-use mathlib.Core.Bool.{Bool, true, false, not, cond}
+use mathlib.Core.Bool.{Bool, true, false, not, cond, _&&_, false≢true}
 use mathlib.Core.Logic.{inl, inr}
 use mathlib.Core.Option.{Option, none, some}
 use mathlib.Core.List.{List, [], _∷_, _++_, map}
@@ -37,6 +37,10 @@ is-true false t = absurd t
 pub is-false : (b : Bool) → T (not b) → b ≡ false
 is-false true t = absurd t
 is-false false t = refl
+
+pub both-true : (s t : Bool) → s && t ≡ true → (s ≡ true) × (t ≡ true)
+both-true true t e = (refl, e)
+both-true false t e = absurd (false≢true e)
 
 module _ {A : Type 0} where
   pub all-imp : {P Q : A → Type 0} → ((x : A) → P x → Q x) → (l : List A) → All P l → All Q l

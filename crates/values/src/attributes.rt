@@ -8,10 +8,12 @@ ghost use lib.Dec.{eqb};
 ghost use lib.IntN.{pos, negℤ};
 ghost use lib.ListN.{length};
 ghost use Rattle.rules.specs.Text.{bytes, begins, has};
-ghost use Rattle.rules.specs.Values.{clefNamed, clefOf, signAfter, isNamed, named, altersFrom, noAlters, lettersFrom, isExpected, allExpected, keyOf, afterPlus, countOf, isPowerOfTwo, plainMeter, meterOf};
+ghost use Rattle.rules.specs.Values.{clefNamed, isMensural, clefOf, signAfter, isNamed, named, altersFrom, noAlters, lettersFrom, isExpected, allExpected, keyOf, afterPlus, countOf, isPowerOfTwo, plainMeter, meterOf};
 ghost use Rattle.text.specs.Counts.{numberIn};
 ghost use Rattle.values.specs.Attributes.{clefNumber, clefOption, clefValue, keyValue, signOption, meterOption};
 use crate::rhythm::step_of;
+use character::character_size;
+use character::characters_in;
 use limits::Pae;
 use text::Class;
 use text::Count;
@@ -125,13 +127,29 @@ fn named_clef(shape: u8, line: u8) -> NamedClef
     }
 }
 
+// Whether the value is three characters with `+` in the middle.
+fn is_mensural(value: &[u8]) -> bool
+    ensures { λ r. ⌜ r ≡ isMensural (now (value .entry)) ⌝ }
+{
+    if value.len() < 3 {
+        return false;
+    }
+    let middle = character_size(value);
+    if value.len() <= middle {
+        return false;
+    }
+    if value[middle] != b'+' {
+        return false;
+    }
+    characters_in(value) == 3
+}
+
 pub fn clef_of(value: &[u8]) -> ClefValue
     ensures { λ r. ⌜ clefValue r ≡ clefOf (now (value .entry)) ⌝ }
 {
+    let mensural = is_mensural(value);
     if value.len() == 3 {
-        let sign = value[1];
-        let mensural = sign == b'+';
-        if mensural | (sign == b'-') {
+        if mensural | (value[1] == b'-') {
             return ClefValue {
                 clef: named_clef(value[0], value[2]),
                 mensural,
@@ -140,7 +158,7 @@ pub fn clef_of(value: &[u8]) -> ClefValue
     }
     ClefValue {
         clef: NamedClef::Unknown,
-        mensural: false,
+        mensural,
     }
 }
 

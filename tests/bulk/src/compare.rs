@@ -36,8 +36,8 @@ impl Comparison {
         self.tally.texts += 1;
         self.walk.follow(text);
         match str::from_utf8(text) {
-            Ok(text) if text.is_ascii() => self.original.read(text),
-            _ => self.original = Original::default(),
+            Ok(text) => self.original.read(text),
+            Err(_) => self.original = Original::default(),
         }
         if !self.agreed() {
             return Err("the original and the harness's own walk differ".into());
@@ -176,7 +176,7 @@ impl Comparison {
             }
             1 => text.len() > TEXT,
             2 => lent.diagnostics < DIAGNOSTICS,
-            3 => !text.is_ascii(),
+            3 => str::from_utf8(text).is_err(),
             4 | 5 | 13 => original.outcome == Outcome::Empty,
             6 => text[self.walk.start..].contains(&b'='),
             7 => original.outcome == Outcome::TooManyNotes,
@@ -205,6 +205,7 @@ impl Comparison {
     }
 
     fn compare_cells(&mut self, text: &[u8]) -> Checked {
+        let text = str::from_utf8(text).map_err(|_| "malformed UTF-8 is accepted")?;
         same_records("note", self.cells.notes(), &self.original.notes, NOTE)?;
         same_records("bar", self.cells.bars(), &self.original.bars, BAR)?;
         if !all_zero(self.cells.figure()) {
@@ -220,7 +221,7 @@ impl Comparison {
         let words = stored.chunks_exact(DIAGNOSTIC);
         for (at, (words, diagnostic)) in words.zip(&self.original.diagnostics).enumerate() {
             let due = found(diagnostic);
-            if !same_diagnostic(text, self.walk.start, words, &due) {
+            if !same_diagnostic(text, &self.walk.starts, words, &due) {
                 return Err(format!("diagnostic {at} differs: {words:?}"));
             }
             self.tally.diagnostics[due.number as usize] += 1;
@@ -247,40 +248,42 @@ fn same_records(name: &str, cells: &[i32], due: &[i32], size: usize) -> Checked 
     Ok(())
 }
 
-fn same_diagnostic(text: &[u8], data: usize, words: &[i32], due: &Found) -> bool {
+fn same_diagnostic(text: &str, starts: &[usize], words: &[i32], due: &Found) -> bool {
     words[..4] == [due.number, due.place_kind, due.place, due.value_kind]
         && match due.value_kind {
-            1 => same_value(text, data, words[4], words[5], due),
+            1 => same_value(text, starts, words[4], words[5], due),
             2 => words[4..] == [0, 0] && due.value == "()",
             _ => words[5] == 0 && words[4].to_string() == due.value,
         }
 }
 
-/// Whether the offsets cut out the value where it stands.
-fn same_value(text: &[u8], data: usize, start: i32, end: i32, due: &Found) -> bool {
+/// Whether the offsets cut out the value where it stands; `starts` are those of the data's characters.
+fn same_value(text: &str, starts: &[usize], start: i32, end: i32, due: &Found) -> bool {
     let (Ok(start), Ok(end)) = (usize::try_from(start), usize::try_from(end)) else {
         return false;
     };
     let stands = match (due.place_kind, due.value) {
-        (3, _) => start == token_value(text, data + due.place as usize - 1),
+        (3, _) => starts
+            .get(due.place as usize - 1)
+            .is_some_and(|token| start == token_value(text, *token)),
         // Where the blanks of an empty value are trimmed to isn't told.
         (_, "") => true,
         _ => Some(start) == line_value(text, due),
     };
-    stands && text.get(start..end) == Some(due.value.as_bytes())
+    stands && text.get(start..end) == Some(due.value)
 }
 
 /// Where the value of the token at this offset starts.
-fn token_value(text: &[u8], token: usize) -> usize {
-    match text[token] {
+fn token_value(text: &str, token: usize) -> usize {
+    match text.as_bytes()[token] {
         b'%' | b'$' | b'@' | b';' => token + 1,
         _ => token,
     }
 }
 
 /// Where the value that a line gives starts: the line's for d1, else the field's.
-fn line_value(text: &[u8], due: &Found) -> Option<usize> {
-    let mut lines = text.split(|byte| *byte == b'\n');
+fn line_value(text: &str, due: &Found) -> Option<usize> {
+    let mut lines = text.split('\n');
     let before: usize = lines
         .by_ref()
         .take(due.place as usize - 1)

@@ -19,23 +19,43 @@ pub struct Reading {
 
 /// A cell of the lent list of diagnostics.
 #[repr(C)]
-struct Cell([i32; DIAGNOSTIC]);
+pub struct Cell([i32; DIAGNOSTIC]);
 
-#[link(name = "pae", kind = "static")]
-unsafe extern "C" {
-    fn pae_read(
-        text: *const u8,
-        text_len: usize,
-        notes: *mut i32,
-        notes_len: usize,
-        bars: *mut i32,
-        bars_len: usize,
-        figure: *mut i32,
-        figure_len: usize,
-        diagnostics: *mut Cell,
-        diagnostics_len: usize,
-    ) -> Reading;
+/// Declares a library's function: pointer and length of the text, the notes, the bars, the figure and the diagnostics.
+macro_rules! declared {
+    ($library:literal, $function:ident) => {
+        #[link(name = $library, kind = "static")]
+        unsafe extern "C" {
+            fn $function(
+                text: *const u8,
+                text_len: usize,
+                notes: *mut i32,
+                notes_len: usize,
+                bars: *mut i32,
+                bars_len: usize,
+                figure: *mut i32,
+                figure_len: usize,
+                diagnostics: *mut Cell,
+                diagnostics_len: usize,
+            ) -> Reading;
+        }
+    };
 }
+declared!("pae", pae_read);
+#[cfg(beside)]
+declared!("pae_beside", pae_read_beside);
+
+/// Such a function.
+#[rustfmt::skip]
+pub type Read = unsafe extern "C" fn(
+    *const u8, usize, *mut i32, usize, *mut i32, usize, *mut i32, usize, *mut Cell, usize,
+) -> Reading;
+
+/// The function of the library beside the tested one, if there is one.
+#[cfg(beside)]
+pub const BESIDE: Option<Read> = Some(pae_read_beside);
+#[cfg(not(beside))]
+pub const BESIDE: Option<Read> = None;
 
 /// What is lent: words for notes, bars and figure, and diagnostic cells.
 #[derive(Clone, Copy, Debug, PartialEq, Eq)]
@@ -83,9 +103,9 @@ impl Buffer {
     }
 }
 
-/// The four lent buffers, full of garbage before each call.
-#[derive(Default)]
+/// The four lent buffers, full of garbage before each call, and who reads into them.
 pub struct Cells {
+    read: Read,
     notes: Buffer,
     bars: Buffer,
     figure: Buffer,
@@ -93,7 +113,24 @@ pub struct Cells {
     calls: u32,
 }
 
+impl Default for Cells {
+    fn default() -> Self {
+        Self::of(pae_read)
+    }
+}
+
 impl Cells {
+    pub fn of(read: Read) -> Self {
+        Self {
+            read,
+            notes: Buffer::default(),
+            bars: Buffer::default(),
+            figure: Buffer::default(),
+            diagnostics: Buffer::default(),
+            calls: 0,
+        }
+    }
+
     /// Poisons all cells, each call with another word, and reads the text into them.
     pub fn read(&mut self, text: &[u8], lent: Lent) -> Reading {
         self.calls = self.calls.wrapping_add(1);
@@ -112,7 +149,7 @@ impl Cells {
         assert!(lent.diagnostics * DIAGNOSTIC <= self.diagnostics.lent);
         // Each pointer is to at least as many words as are told beside it.
         unsafe {
-            pae_read(
+            (self.read)(
                 text.as_ptr(),
                 text.len(),
                 self.notes.pointer(),

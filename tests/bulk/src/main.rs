@@ -13,7 +13,7 @@ use random::Random;
 use run::Run;
 use std::process::ExitCode;
 use std::time::{Duration, Instant};
-use texts::{limits, lines, short};
+use texts::{characters, limits, lines, short};
 
 /// How long the random section runs.
 #[derive(Clone, Copy)]
@@ -28,7 +28,9 @@ struct Options {
     seed: u64,
 }
 
-const SECTIONS: [&str; 4] = ["ascii", "alphabets", "limits", "random"];
+/// The sections that run where none is named, and those that run only then.
+const SECTIONS: [&str; 5] = ["ascii", "alphabets", "utf8", "limits", "random"];
+const NAMED: [&str; 3] = ["scalars", "speed", "beside"];
 
 fn options() -> Result<Options, String> {
     let mut options = Options {
@@ -46,7 +48,9 @@ fn options() -> Result<Options, String> {
             "--count" => options.until = Until::Count(number()?),
             "--seconds" => options.until = Until::Time(Duration::from_secs(number()?)),
             "--seed" => options.seed = number()?,
-            name if name == "speed" || SECTIONS.contains(&name) => options.sections.push(argument),
+            name if SECTIONS.contains(&name) || NAMED.contains(&name) => {
+                options.sections.push(argument)
+            }
             _ => return Err(format!("unknown argument {argument}")),
         }
     }
@@ -69,8 +73,11 @@ fn main() -> ExitCode {
         match section.as_str() {
             "ascii" => faults += ascii(),
             "alphabets" => faults += alphabets(),
+            "utf8" => faults += characters(false) + sequences() + parts() + runs(),
+            "scalars" => faults += characters(true),
             "limits" => faults += at_limits(),
             "random" => faults += random_lines(options.until, options.seed),
+            "beside" => speed::beside(),
             _ => speed::table(),
         }
     }
@@ -107,6 +114,66 @@ fn alphabets() -> u64 {
     faults
 }
 
+fn characters(all: bool) -> u64 {
+    let which = if all {
+        "every scalar value"
+    } else {
+        "scalar values below U+3100, edges and every 61st"
+    };
+    section(&format!("{which}, each at 20 places"), 1, |run| {
+        for character in characters::scalars(all) {
+            characters::around(character, &mut |text| {
+                if !run.full() {
+                    run.text(text)
+                }
+            });
+        }
+    })
+}
+
+fn sequences() -> u64 {
+    section(
+        "up to 4 bytes at UTF-8's edges, alone and behind C",
+        1,
+        |run| {
+            characters::sequences(&mut |text| {
+                if !run.full() {
+                    run.text(text)
+                }
+            });
+        },
+    )
+}
+
+fn parts() -> u64 {
+    let mut faults = 0;
+    for (name, parts) in characters::PARTS {
+        let title = format!("all texts of up to 6 of {parts:?} ({name})");
+        faults += section(&title, 1, |run| {
+            short::all_of(&parts.map(str::as_bytes), 6, &mut |text| {
+                if !run.full() {
+                    run.text(text)
+                }
+            });
+        });
+    }
+    faults
+}
+
+fn runs() -> u64 {
+    section(
+        "runs of up to 130 before and behind characters and malformed bytes",
+        1,
+        |run| {
+            characters::runs(130, &mut |text| {
+                if !run.full() {
+                    run.text(text)
+                }
+            });
+        },
+    )
+}
+
 fn at_limits() -> u64 {
     let each = |title, texts: Vec<Vec<u8>>, sizes: fn(walk::Needs) -> Vec<library::Lent>| {
         section(title, 1, |run| {
@@ -124,6 +191,10 @@ fn at_limits() -> u64 {
     ) + each(
         "65,533 to 65,537 bytes",
         limits::long_texts(),
+        limits::few_sizes,
+    ) + each(
+        "65,534 to 65,536 bytes, of two to four a character",
+        limits::long_wide_texts(),
         limits::few_sizes,
     ) + each(
         "31 to 2,000 diagnostics",

@@ -1,10 +1,10 @@
 //! Time per byte of the original and of the library, in one process.
 
 use crate::compare::ample;
-use crate::library::{BAR, Cells, DIAGNOSTICS, Lent, NOTE};
+use crate::library::{BAR, BESIDE, Cells, DIAGNOSTICS, Lent, NOTE, Read};
 use crate::random::Random;
 use crate::texts::incipits::plausible;
-use crate::texts::limits::framed;
+use crate::texts::limits::{framed, framed_whole};
 use crate::walk::Walk;
 use acorde_io::parse_pae_with_report;
 use std::hint::black_box;
@@ -34,9 +34,10 @@ pub fn table() {
     let small = row("(b) music", &[music(SMALL)]);
     let large = row("(c) music", &[music(LARGE)]);
     let mut growth = vec![("music", small, large)];
-    for (name, text) in ADVERSARIAL {
-        let small = row(&format!("(d) {name}"), &[text(SMALL)]);
-        let large = row(&format!("(d) {name}"), &[text(LARGE)]);
+    let made = ADVERSARIAL.map(|row| ("(d)", row));
+    for (mark, (name, text)) in made.into_iter().chain(WIDE.map(|row| ("(e)", row))) {
+        let small = row(&format!("{mark} {name}"), &[text(SMALL)]);
+        let large = row(&format!("{mark} {name}"), &[text(LARGE)]);
         growth.push((name, small, large));
     }
     println!();
@@ -52,6 +53,37 @@ pub fn table() {
             large.ample / small.ample
         );
     }
+}
+
+/// Prints nanoseconds a byte of the library and of the one beside it, both with exact cells, and how many times faster
+/// the library is, where both accept the text.
+pub fn beside() {
+    let Some(read) = BESIDE else {
+        println!("no library is named by --beside");
+        return;
+    };
+    println!("| text | bytes | library | beside | times |");
+    println!("|---|---|---|---|---|");
+    beside_row("400 incipits", &incipits(), read);
+    let music: (&str, Made) = ("music", music);
+    for (name, text) in [music].into_iter().chain(ADVERSARIAL).chain(WIDE) {
+        beside_row(name, &[text(SMALL)], read);
+        beside_row(name, &[text(LARGE)], read);
+    }
+}
+
+fn beside_row(name: &str, texts: &[Vec<u8>], read: Read) {
+    let bytes: usize = texts.iter().map(Vec::len).sum();
+    let (exact, _) = lents(texts);
+    let library = reader(Cells::default(), texts, &exact);
+    let other = reader(Cells::of(read), texts, &exact);
+    let (Some(mut library), Some(mut other)) = (library, other) else {
+        println!("| {name} | {bytes} | refused by one | | |");
+        return;
+    };
+    let [library, other] = best([&mut library, &mut other], bytes);
+    let times = other / library;
+    println!("| {name} | {bytes} | {library:.2} | {other:.2} | {times:.2} |");
 }
 
 fn row(name: &str, texts: &[Vec<u8>]) -> Times {
@@ -82,6 +114,37 @@ fn music(size: usize) -> Vec<u8> {
 }
 
 type Made = fn(usize) -> Vec<u8>;
+
+/// Texts with characters of two and three bytes.
+const WIDE: [(&str, Made); 9] = [
+    ("a record with umlauts", record),
+    ("notes, `é` between them", |size| {
+        framed_whole("", "CéDEFé", "", size)
+    }),
+    ("notes, `漢` between them", |size| {
+        framed_whole("", "C漢DEF漢", "", size)
+    }),
+    ("notes, U+00A0 between them", |size| {
+        framed_whole("", "CD\u{a0}EF\u{a0}", "", size)
+    }),
+    ("U+00A0", |size| framed_whole("", "\u{a0}", "C", size)),
+    ("U+3000", |size| framed_whole("", "\u{3000}", "C", size)),
+    ("`%` before `é`s", |size| framed_whole("%", "é", "C", size)),
+    ("`%` before `漢`s", |size| {
+        framed_whole("%", "漢", "C", size)
+    }),
+    ("`%é漢𝄞` runs", |size| {
+        framed_whole("", "%é漢𝄞", " C", size)
+    }),
+];
+
+/// A record as a library pastes it: a few fields with umlauts, one of them half of the text, then music.
+fn record(size: usize) -> Vec<u8> {
+    let head = "@composer:Schütz\n@title:Fröhlich zu singen, für Köln\n@note:";
+    let part = "Überschrift von späterer Hand, ß und ä getilgt. ";
+    let fields = framed_whole(head, part, "\n@clef:G-2\n@data:", size / 2);
+    [fields, music(size - size / 2)].concat()
+}
 
 /// Lines that ask much of a reader.
 const ADVERSARIAL: [(&str, Made); 16] = [
@@ -152,7 +215,7 @@ fn lents(texts: &[Vec<u8>]) -> (Vec<Lent>, Vec<Lent>) {
     both.unzip()
 }
 
-/// Both read all texts in turns; the best run of each counts.
+/// The original and the library read all texts.
 fn timed(texts: &[Vec<u8>], bytes: usize) -> Times {
     let (exact, ample) = lents(texts);
     let strings: Vec<&str> = texts
@@ -164,20 +227,10 @@ fn timed(texts: &[Vec<u8>], bytes: usize) -> Times {
             drop(black_box(parse_pae_with_report(black_box(text))));
         }
     };
-    let mut with_exact = reader(texts, &exact);
-    let mut with_ample = reader(texts, &ample);
-    let mut best = [f64::INFINITY; 3];
-    for _ in 0..RUNS {
-        let run = [
-            once(&mut original),
-            once(&mut with_exact),
-            once(&mut with_ample),
-        ];
-        for (best, run) in best.iter_mut().zip(run) {
-            *best = best.min(run / bytes as f64);
-        }
-    }
-    let [original, exact, ample] = best;
+    let accepted = "a text of the table is refused";
+    let mut with_exact = reader(Cells::default(), texts, &exact).expect(accepted);
+    let mut with_ample = reader(Cells::default(), texts, &ample).expect(accepted);
+    let [original, exact, ample] = best([&mut original, &mut with_exact, &mut with_ample], bytes);
     Times {
         original,
         exact,
@@ -185,8 +238,23 @@ fn timed(texts: &[Vec<u8>], bytes: usize) -> Times {
     }
 }
 
-/// Reads all texts with the library into cells of its own.
-fn reader<'a>(texts: &'a [Vec<u8>], lents: &'a [Lent]) -> impl FnMut() + 'a {
+/// Nanoseconds a byte of each work, done in turns; the best run of each counts.
+fn best<const N: usize>(mut works: [&mut dyn FnMut(); N], bytes: usize) -> [f64; N] {
+    let mut best = [f64::INFINITY; N];
+    for _ in 0..RUNS {
+        for (best, work) in best.iter_mut().zip(&mut works) {
+            *best = best.min(once(work) / bytes as f64);
+        }
+    }
+    best
+}
+
+/// Reads all texts into the cells, which are its own; none if a text is refused.
+fn reader<'a>(
+    mut cells: Cells,
+    texts: &'a [Vec<u8>],
+    lents: &'a [Lent],
+) -> Option<impl FnMut() + 'a> {
     let most = |words: fn(&Lent) -> usize| lents.iter().map(words).max().unwrap_or(0);
     let widest = Lent {
         notes: most(|lent| lent.notes),
@@ -194,24 +262,18 @@ fn reader<'a>(texts: &'a [Vec<u8>], lents: &'a [Lent]) -> impl FnMut() + 'a {
         figure: most(|lent| lent.figure),
         diagnostics: DIAGNOSTICS,
     };
-    let mut cells = Cells::default();
     cells.read(b"C", widest);
-    for (text, lent) in texts.iter().zip(lents) {
-        assert_eq!(
-            cells.reread(text, *lent).number,
-            0,
-            "a text of the table is refused"
-        );
-    }
-    move || {
+    let mut each = texts.iter().zip(lents);
+    let accepted = each.all(|(text, lent)| cells.reread(text, *lent).number == 0);
+    accepted.then_some(move || {
         for (text, lent) in texts.iter().zip(lents) {
             black_box(cells.reread(black_box(text), *lent));
         }
-    }
+    })
 }
 
 /// Nanoseconds that the work takes, done again and again for a run.
-fn once(work: &mut impl FnMut()) -> f64 {
+fn once(work: &mut dyn FnMut()) -> f64 {
     let begun = thread_time();
     let mut times = 0;
     while thread_time() - begun < RUN {

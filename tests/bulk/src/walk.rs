@@ -45,6 +45,8 @@ pub struct Walk {
     pub records: Vec<Record>,
     /// Where the data starts in the text.
     pub start: usize,
+    /// Where each character of the data starts in the text.
+    pub starts: Vec<usize>,
     /// The stop that no lent size helps.
     pub stop: Option<Refusal>,
     bars: Vec<u32>,
@@ -66,13 +68,20 @@ impl Walk {
         let stopped = |number| Some(Refusal { place: 0, number });
         if text.len() > TEXT {
             self.stop = stopped(1);
-        } else if !text.is_ascii() {
+            return;
+        }
+        let Ok(text) = str::from_utf8(text) else {
             self.stop = stopped(3);
-        } else if text.iter().all(|byte| is_blank(*byte)) {
+            return;
+        };
+        if text.chars().all(is_blank) {
             self.stop = stopped(4);
         } else if let Some((start, end)) = data_of(text) {
+            let data = &text[start..end];
             self.start = start;
-            self.follow_data(&text[start..end]);
+            self.starts
+                .extend(data.char_indices().map(|(at, _)| start + at));
+            self.follow_data(data);
         } else {
             self.stop = stopped(5);
         }
@@ -84,6 +93,8 @@ impl Walk {
         std::mem::swap(&mut fresh.bars, &mut self.bars);
         std::mem::swap(&mut fresh.figures, &mut self.figures);
         std::mem::swap(&mut fresh.figure, &mut self.figure);
+        std::mem::swap(&mut fresh.starts, &mut self.starts);
+        fresh.starts.clear();
         fresh.records.clear();
         fresh.bars.clear();
         fresh.figures.clear();
@@ -136,18 +147,19 @@ impl Walk {
             .or(none_stored)
     }
 
-    fn follow_data(&mut self, data: &[u8]) {
-        let mut at = 0;
-        while at < data.len() {
-            let end = token_end(data, at);
-            let place = at as u32 + 1;
-            if let Err(number) = self.take(&data[at..end], place) {
+    fn follow_data(&mut self, data: &str) {
+        let mut rest = data;
+        let mut place = 1;
+        while let Some(first) = rest.chars().next() {
+            let (token, behind) = rest.split_at(token_size(first, rest));
+            if let Err(number) = self.take(token.as_bytes(), place) {
                 self.stop = Some(Refusal { place, number });
                 return;
             }
-            at = end;
+            place += token.chars().count() as u32;
+            rest = behind;
         }
-        self.close(data.len() as u32 + 1);
+        self.close(place);
     }
 
     /// The records of the open bar.
@@ -300,19 +312,29 @@ impl Walk {
     }
 }
 
-pub fn is_blank(byte: u8) -> bool {
-    matches!(byte, 9..=13 | 32)
+/// The 25 characters of Unicode's White_Space.
+pub fn is_blank(character: char) -> bool {
+    matches!(
+        character,
+        '\t'..='\r'
+            | ' '
+            | '\u{85}'
+            | '\u{a0}'
+            | '\u{1680}'
+            | '\u{2000}'..='\u{200a}'
+            | '\u{2028}'
+            | '\u{2029}'
+            | '\u{202f}'
+            | '\u{205f}'
+            | '\u{3000}'
+    )
 }
 
 /// The part of `text` between `start` and `end` without the blanks about it.
-pub fn trimmed(text: &[u8], mut start: usize, mut end: usize) -> (usize, usize) {
-    while start < end && is_blank(text[end - 1]) {
-        end -= 1;
-    }
-    while start < end && is_blank(text[start]) {
-        start += 1;
-    }
-    (start, end)
+pub fn trimmed(text: &str, start: usize, end: usize) -> (usize, usize) {
+    let kept = text[start..end].trim_end_matches(is_blank);
+    let end = start + kept.len();
+    (end - kept.trim_start_matches(is_blank).len(), end)
 }
 
 /// A field line's key and value, as parts of the text.
@@ -322,32 +344,28 @@ pub struct Field {
 }
 
 /// The field that stands in a trimmed line.
-pub fn field_in(text: &[u8], (start, end): (usize, usize)) -> Option<Field> {
-    if start == end || text[start] != b'@' {
-        return None;
-    }
+pub fn field_in(text: &str, (start, end): (usize, usize)) -> Option<Field> {
+    let line = text[start..end].strip_prefix('@')?;
     let key = start + 1;
-    let letters = text[key..end]
-        .iter()
-        .take_while(|byte| byte.is_ascii_alphabetic());
-    let colon = key + letters.count();
-    (colon > key && colon < end && text[colon] == b':').then(|| Field {
+    let letters = line.bytes().take_while(u8::is_ascii_alphabetic).count();
+    let colon = key + letters;
+    (letters > 0 && line[letters..].starts_with(':')).then(|| Field {
         key: (key, colon),
         value: trimmed(text, colon + 1, end),
     })
 }
 
 /// Where the data stands; none in field form without a data field.
-fn data_of(text: &[u8]) -> Option<(usize, usize)> {
-    if !text.contains(&b'@') {
+fn data_of(text: &str) -> Option<(usize, usize)> {
+    if !text.contains('@') {
         return Some((0, text.len()));
     }
     let (mut form, mut data, mut start) = (false, None, 0);
-    for line in text.split(|byte| *byte == b'\n') {
+    for line in text.split('\n') {
         let end = start + line.len();
         if let Some(field) = field_in(text, trimmed(text, start, end)) {
             form = true;
-            if &text[field.key.0..field.key.1] == b"data" {
+            if &text[field.key.0..field.key.1] == "data" {
                 data = Some(field.value);
             }
         }
@@ -356,30 +374,31 @@ fn data_of(text: &[u8]) -> Option<(usize, usize)> {
     if form { data } else { Some((0, text.len())) }
 }
 
-/// Where the token that starts at `at` ends.
-fn token_end(data: &[u8], at: usize) -> usize {
-    let rest = &data[at + 1..];
-    let run = |accept: fn(u8) -> bool| rest.iter().take_while(|byte| accept(**byte)).count();
-    let more = match data[at] {
-        b'\'' => run(|byte| byte == b'\''),
-        b',' => run(|byte| byte == b','),
-        b'x' => run(|byte| byte == b'x'),
-        b'b' => run(|byte| byte == b'b'),
-        b'0'..=b'9' => run(|byte| byte.is_ascii_digit() || byte == b'.'),
-        b';' | b'=' => run(|byte| byte.is_ascii_digit()),
-        b'%' => rest
-            .iter()
+/// How many bytes the token has that starts with the character `first` of `data`.
+fn token_size(first: char, data: &str) -> usize {
+    let rest = &data[first.len_utf8()..];
+    let run = |accept: fn(u8) -> bool| rest.bytes().take_while(|byte| accept(*byte)).count();
+    let more = match first {
+        '\'' => run(|byte| byte == b'\''),
+        ',' => run(|byte| byte == b','),
+        'x' => run(|byte| byte == b'x'),
+        'b' => run(|byte| byte == b'b'),
+        '0'..='9' => run(|byte| byte.is_ascii_digit() || byte == b'.'),
+        ';' | '=' => run(|byte| byte.is_ascii_digit()),
+        '%' => rest
+            .chars()
             .take(3)
-            .take_while(|byte| !is_blank(**byte))
-            .count(),
-        b'$' => run(|byte| matches!(byte, b'x' | b'b' | b'n' | b'A'..=b'G' | b'[' | b']')),
-        b'@' => run(|byte| matches!(byte, b'0'..=b'9' | b'/' | b'c' | b'.' | b'+')),
-        b':' if rest.starts_with(b"//:") => 3,
-        b':' if rest.starts_with(b"//") => 2,
-        b'/' if rest.starts_with(b"/:") => 2,
-        b'/' if rest.starts_with(b"/") => 1,
-        b'q' if rest.starts_with(b"q") => 1,
+            .take_while(|character| !is_blank(*character))
+            .map(char::len_utf8)
+            .sum(),
+        '$' => run(|byte| matches!(byte, b'x' | b'b' | b'n' | b'A'..=b'G' | b'[' | b']')),
+        '@' => run(|byte| matches!(byte, b'0'..=b'9' | b'/' | b'c' | b'.' | b'+')),
+        ':' if rest.starts_with("//:") => 3,
+        ':' if rest.starts_with("//") => 2,
+        '/' if rest.starts_with("/:") => 2,
+        '/' if rest.starts_with('/') => 1,
+        'q' if rest.starts_with('q') => 1,
         _ => 0,
     };
-    at + 1 + more
+    first.len_utf8() + more
 }

@@ -7,11 +7,11 @@ use Rattle.decode.proofs.colon.Tie as tie
 
 returns : tie.Need-returns
 unfolding tokenOf
-returns c = (λ value e. simp (eq-eqb _ 1 (sym e ∙ c .if1 .taken)), tt)
+returns c value e = (simp (eq-eqb _ 1 (sym e ∙ c .if1 .taken)), tt)
 
 returns-2 : tie.Need-returns-2
 unfolding tokenOf
-returns-2 c = (λ value e. rw (c .colons .ensures, e), tt)
+returns-2 c value e = (rw (c .colons .ensures, e), tt)
 
 pub colon-spec : {M : Type 1} → statement M
 colon-spec = tie.close (tie.spec returns (λ c κs. search needs) returns-2)

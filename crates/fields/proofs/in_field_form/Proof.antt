@@ -3,7 +3,7 @@ use native.Mathlib.Omega.{arith}
 use mathlib.Core.Path.{_≡_, sym, ap, _∙_}
 use mathlib.Core.List.{List}
 use lib.ListN.{length}
-use Rattle.rules.specs.Text.{trim}
+use Rattle.rules.specs.Characters.{trim}
 use Rattle.rules.specs.Fields.{isField}
 use Rattle.text.specs.Parts.{partAt}
 use Rattle.text.proofs.WalkLaws.{line-within}

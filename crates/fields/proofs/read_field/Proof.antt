@@ -3,7 +3,7 @@ use native.Mathlib.Omega.{arith}
 use mathlib.Core.Path.{_≡_, sym, ap, _∙_}
 use mathlib.Core.List.{List, map}
 use lib.ListN.{length, take, drop}
-use Rattle.rules.specs.Text.{trim}
+use Rattle.rules.specs.Characters.{trim}
 use Rattle.rules.specs.Fields.{Line, keySize}
 use Rattle.rules.specs.Words.{diagnosticWords}
 use Rattle.text.specs.Parts.{partAt}

@@ -10,7 +10,7 @@ use borrow.Author.Needs.{needs}
 use borrow.Author.Tests.{not-false}
 use Rattle.rules.specs.Text.{runLength, every}
 use Rattle.text.specs.Runs.{SameEnd}
-use Rattle.text.proofs.RunLaws.{run-over}
+use Rattle.rules.proofs.Runs.{run-over}
 use Rattle.text.proofs.chunks_end.Statement.{statement}
 use Rattle.text.proofs.chunks_end.Tie as tie
 

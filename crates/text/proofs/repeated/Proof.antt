@@ -6,7 +6,7 @@ use lib.ListN.{length}
 use borrow.Author.Needs.{needs}
 use borrow.Author.Tests.{eq-eqb, ne-eqb}
 use Rattle.text.specs.Runs.{SameEnd}
-use Rattle.text.proofs.RunLaws.{run-more, run-stop, run-end}
+use Rattle.rules.proofs.Runs.{run-more, run-stop, run-end}
 use Rattle.text.proofs.repeated.Statement.{statement}
 use Rattle.text.proofs.repeated.Tie as tie
 

@@ -4,7 +4,7 @@ use mathlib.Core.Path.{_≡_, sym, _∙_}
 use lib.ListN.{length, drop}
 use borrow.Author.Needs.{needs}
 use borrow.Author.Tests.{not-true, not-false}
-use Rattle.text.proofs.RunLaws.{run-more, run-stop, run-end}
+use Rattle.rules.proofs.Runs.{run-more, run-stop, run-end}
 use Rattle.rules.specs.Text.{runLength}
 use Rattle.text.specs.Classes.{inClass}
 use Rattle.text.proofs.run.Statement.{statement}

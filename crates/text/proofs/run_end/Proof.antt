@@ -4,7 +4,7 @@ use lib.ListN.{drop, length-drop}
 use Rattle.rules.specs.Text.{runLength}
 use Rattle.text.specs.Classes.{inClass}
 use Rattle.text.proofs.PartLaws.{part-to-end}
-use Rattle.text.proofs.RunLaws.{run-within}
+use Rattle.rules.proofs.Runs.{run-within}
 use borrow.Author.Needs.{needs}
 use Rattle.text.proofs.run_end.Statement.{statement}
 use Rattle.text.proofs.run_end.Tie as tie

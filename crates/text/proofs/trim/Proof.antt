@@ -1,36 +1,65 @@
-use Prim.Native.Nat.{_+_, _≤_}
+use Prim.Native.Nat.{ℕ, _-_, _≤_}
 use native.Mathlib.Omega.{arith}
+use mathlib.Core.Path.{_≡_, refl, sym, ap, _∙_}
+use lib.ListN.{getD}
 use borrow.Author.Needs.{needs}
-use Rattle.text.specs.Parts.{Trimmed}
-use Rattle.text.proofs.TrimLaws.{blanks-within, trimmed}
+use borrow.Author.Tests.{lt-ltb, not-false}
+use Rattle.rules.specs.Characters.{trim}
+use Rattle.text.specs.Parts.{partAt}
+use Rattle.text.proofs.TrimLaws.{trim-first, trimmed-inside, trimmed-none}
 use Rattle.text.proofs.trim.Statement.{statement}
 use Rattle.text.proofs.trim.Tie as tie
 
--- the blanks at the start end within the part
-within : (c : tie.After-run) → c .before .before .before .args .start + c .run .result ≤ c .before .before .before .args .end
-within c =
-    let a = c .before .before .before .args in
-    rw (c .run .ensures) (blanks-within (a .text .now) (a .start) (a .end) (omega arith) (omega arith))
+abbrev Inv-loop : tie.InvT-loop
+Inv-loop text start end first₀ first = (start ≤ first) × (first ≤ end) × (trim (partAt text start end) ≡ trim (partAt text first end))
 
--- the result is right
-right : (c : tie.After-trimmed-size) → Trimmed (c .before .before .before .before .before .args .text .now) (c .before .before .before .before .before .args .start) (c .before .before .before .before .before .args .end)
-    (record { start = c .before .before .before .before .before .args .start + c .before .before .run .result; end = c .before .before .before .before .before .args .start + c .before .before .run .result + c .trimmed-size .result })
-right c =
-    let a = c .before .before .before .before .before .args in
-    rw (c .trimmed-size .ensures, c .before .before .run .ensures) (trimmed (a .text .now) (a .start) (a .end) (omega arith) (omega arith))
+abbrev μ-loop : tie.MeasureT-loop
+μ-loop text start end first₀ first = end - first
+
+returns : tie.Need-returns Inv-loop μ-loop
+returns c =
+    let a = c .before .before .before .before .before .before .args in
+    let l = c .before .before .before .before .loop in
+    trimmed-inside (a .text .now) (a .start) (a .end) (l .first) (a .end) (c .wide-trim .result) (l .inv .0) (omega arith) (l .inv .2) (c .wide-trim .ensures)
+
+trim-last-requires : tie.Need-trim-last-requires Inv-loop μ-loop
+trim-last-requires c κs =
+    let b = getD (c .before .before .before .before .before .before .before .args .text .now) (c .before .before .before .before .before .loop .first) 0 in
+    (omega arith, omega arith, rw (lt-ltb b 128 (omega arith), sym (c .before .is-low-blank .ensures)) (c .if2 .taken))
+
+returns-2 : tie.Need-returns-2 Inv-loop μ-loop
+returns-2 c =
+    let a = c .before .before .before .before .before .before .before .before .args in
+    let l = c .before .before .before .before .before .before .loop in
+    trimmed-inside (a .text .now) (a .start) (a .end) (l .first) (a .end) (c .trim-last .result) (l .inv .0) (omega arith) (l .inv .2) (c .trim-last .ensures)
+
+loop-again : tie.Need-loop-again Inv-loop μ-loop
+loop-again c =
+    let a = c .before .before .before .before .before .before .before .args in
+    let l = c .before .before .before .before .before .loop in
+    (omega arith, omega arith, l .inv .2 ∙ trim-first (a .text .now) (l .first) (a .end) (omega arith) (omega arith) (omega arith) (sym (c .before .is-low-blank .ensures) ∙ not-false _ (c .if2 .left)))
+
+returns-3 : tie.Need-returns-3 Inv-loop μ-loop
+returns-3 c =
+    let a = c .before .before .before .args in
+    let l = c .before .loop in
+    let e : a .end ≡ l .first = omega arith in
+    trimmed-inside (a .text .now) (a .start) (a .end) (l .first) (l .first) (record { start = l .first; end = l .first }) (l .inv .0) (l .inv .1) (l .inv .2 ∙ ap (λ (n : ℕ). trim (partAt (a .text .now) (l .first) n)) e) (trimmed-none (a .text .now) (l .first))
 
 pub trim-spec : {M : Type 1} → statement M
 trim-spec =
     tie.close
     (tie.spec
-    (λ c. search needs)
-    (λ c. search needs)
-    (λ c. search needs)
+    Inv-loop
+    μ-loop
+    (λ c. (omega arith, omega arith, refl))
+    (λ c. omega arith)
+    (λ c κs. (omega arith, omega arith))
+    returns
     (λ c κs. search needs)
-    (λ c. omega (arith, within c))
-    (λ c. omega (arith, within c))
-    (λ c. omega (arith, within c))
-    (λ c. search needs)
-    (λ c κs. search needs)
-    (λ c. omega (arith, right c .to))
-    (λ c. right c))
+    trim-last-requires
+    returns-2
+    (λ c. omega arith)
+    (λ c. omega arith)
+    loop-again
+    returns-3)

@@ -28,6 +28,14 @@ pub const FORMS: [&str; 4] = [
     "@title: x\n\n@clef:C+3\nodd\n@timesig:0/4\n@data:C\n\t@data: 8.6{CD}\n",
 ];
 
+/// Records as libraries paste them, with accents in the fields that aren't read.
+pub const RECORDS: [&str; 4] = [
+    "@composer:Dvořák, Antonín\n@title:Šárka: Předehra\n@clef:G-2\n@keysig:xFC\n@timesig:3/4\n@data:'4C8DE/4F+FA/",
+    "@title:Grüße aus Köln\u{a0}\r\n@clef:F-4\r\nfür Baß\r\n@timesig:c/\r\n@data:\u{a0},4C/D\u{2003}\r\n",
+    "@titre:Noël\u{202f}: « Où s’en vont »\n@data:4C\u{a0}D\u{2009}E/%é+üF\n@clef:C+3\n",
+    "@title:六段の調\n\u{3000}@clef:G-2\u{3000}\n\u{2028}\n@keysig:b\u{a0}B\n@data:8.6\u{3000}{CD}𝄐!EF!f/i",
+];
+
 const LETTERS: &[u8] = b"ABCDEFG";
 
 /// A line as a catalogue has it: clef, key and meter, then bars of about so many bytes in all.

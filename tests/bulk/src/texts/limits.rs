@@ -1,6 +1,7 @@
 //! Texts at document 01's limits, and lent sizes around what a text needs.
 
-use super::incipits::{FORMS, INCIPITS};
+use super::characters::WIDE_BLANKS;
+use super::incipits::{FORMS, INCIPITS, RECORDS};
 use crate::compare::ample;
 use crate::library::{BAR, DIAGNOSTICS, Lent, NOTE};
 use crate::walk::Needs;
@@ -14,6 +15,14 @@ pub fn filled(part: &str, size: usize) -> Vec<u8> {
 pub fn framed(head: &str, part: &str, tail: &str, size: usize) -> Vec<u8> {
     let room = size - head.len() - tail.len();
     [head.as_bytes(), &filled(part, room), tail.as_bytes()].concat()
+}
+
+/// As `framed`, but of whole parts, with spaces before the tail where another doesn't fit.
+pub fn framed_whole(head: &str, part: &str, tail: &str, size: usize) -> Vec<u8> {
+    let room = size - head.len() - tail.len();
+    let (parts, left) = (room / part.len(), room % part.len());
+    let text = head.to_string() + &part.repeat(parts) + &" ".repeat(left) + tail;
+    text.into_bytes()
 }
 
 /// Texts about 65,535 bytes long.
@@ -70,6 +79,61 @@ pub fn long_texts() -> Vec<Vec<u8>> {
     texts
 }
 
+/// Texts about 65,535 bytes long with characters of two to four bytes, whole and cut at the text's end.
+pub fn long_wide_texts() -> Vec<Vec<u8>> {
+    let blanks: String = WIDE_BLANKS.iter().collect();
+    let frames = [
+        ("", "é", ""),
+        ("", "é", "C"),
+        ("C", "漢", ""),
+        ("", "Cé", ""),
+        ("", "漢C/", ""),
+        ("", "𝄞", "C"),
+        ("", "\u{a0}", ""),
+        ("", "\u{a0}", "C"),
+        ("", "\u{3000}", ""),
+        ("", "\u{3000}", "C"),
+        ("C", "\u{3000}", ""),
+        ("", &blanks, ""),
+        ("", &blanks, "C"),
+        ("%", "é", "C"),
+        ("%", "漢", " C"),
+        ("", "%é", " C"),
+        ("", "%é+ü", " C"),
+        ("", "%𝄞漢é", " C"),
+        ("", "$é", "C"),
+        ("", "@é", "C"),
+        ("8", "\u{a0}.", "C"),
+        ("(C", ";é", ")"),
+        ("@data:", "é", "C"),
+        ("@data:", &blanks, "C"),
+        ("@data:C", &blanks, ""),
+        ("@data:C\u{a0}", "é\u{a0}", ""),
+        ("", &blanks, "@data:C"),
+        ("", "\u{a0}\n", "@data:C"),
+        ("", "é\n", "@data:C"),
+        ("", "@a:é\n", "@data:C"),
+        ("", "@é:\n", "@data:C"),
+        ("@title:", "é", "\n@data:C"),
+        ("@title:", "\u{3000}", "\n@data:C"),
+        ("@clef:", "é", "\n@data:C"),
+        ("@clef:é+", "\u{301}", "\n@data:C"),
+        ("@keysig:x", "\u{a0}", "F\n@data:F"),
+        ("@timesig:", "é", "3/4\n@data:C"),
+        ("@data:é", "C", "é\n@data:é"),
+        ("!é", "C\u{a0}", "!f"),
+        ("", "=é", ""),
+    ];
+    let mut texts = Vec::new();
+    for size in 65_534..=65_536 {
+        texts.extend(frames.map(|(head, part, tail)| framed_whole(head, part, tail, size)));
+        texts.extend(["é", "漢", "𝄞", "\u{3000}"].map(|part| filled(part, size)));
+        texts.push([&filled("C", size - 2)[..], "é".as_bytes()].concat());
+        texts.push([&filled("\u{a0}", size - 1)[..], b"\xc2"].concat());
+    }
+    texts
+}
+
 /// Texts with about 64 diagnostics, for which the scratch tried first has room, about 1,024, and more.
 pub fn many_diagnostics() -> Vec<Vec<u8>> {
     let mut texts = Vec::new();
@@ -92,6 +156,11 @@ pub fn many_diagnostics() -> Vec<Vec<u8>> {
             ("C", "(/)C", ""),
             ("", "(CC;1)", ""),
             ("C", "!/!C", ""),
+            ("C", "é", ""),
+            ("C", "\u{3000}漢", ""),
+            ("", "%é+𝄞 ", "C"),
+            ("@data:é", "\né", "C"),
+            ("@data:C", "\n\u{a0}@a:é\u{a0}", ""),
         ] {
             let text = head.to_string() + &part.repeat(count) + tail;
             texts.push(text.into_bytes());
@@ -202,10 +271,20 @@ pub fn sized_texts() -> Vec<Vec<u8>> {
         "!C!/i/i/i!",
         "C!f!f",
         "!CDEFG!/!C!",
+        "éC",
+        "é\u{a0}C/漢D𝄞",
+        "\u{a0}",
+        "\u{200b}",
+        "é!C漢!ü",
+        "!é!f",
+        "%é+üC/é=",
+        "@data:\u{3000}éC\u{a0}D\u{2028}\n@tïtle:x",
+        "éC^éC^C^C^C^C^C^C^C",
+        "éC\u{2009}ttttttttét",
     ];
-    let all = INCIPITS.iter().chain(&FORMS).chain(&more);
+    let all = INCIPITS.iter().chain(&FORMS).chain(&RECORDS).chain(&more);
     all.map(|text| text.as_bytes().to_vec())
-        .chain([b"C\x80".to_vec()])
+        .chain([b"C\x80".to_vec(), b"C\xed\xa0\x80".to_vec()])
         .collect()
 }
 

@@ -1,6 +1,7 @@
-//! Random texts: lines of tokens, field forms, incipits with slips.
+//! Random texts: lines of tokens, field forms, incipits with slips; some with characters beyond ASCII, some malformed.
 
-use super::incipits::{FORMS, INCIPITS};
+use super::characters::{ACCENTED, EDGES, NEAR_BLANKS, WIDE_BLANKS};
+use super::incipits::{FORMS, INCIPITS, RECORDS};
 use crate::random::Random;
 
 const LETTERS: &[u8] = b"ABCDEFG";
@@ -60,6 +61,23 @@ const COUNTS: [&str; 29] = [
 const UNKNOWN: &[u8] = b"?zHaduewshjklmopvycX.[]|~_*&#<>\"\\`RTIVZ\x00\x01\x08\x0e\x1b\x1c\x1f\x7f";
 const BLANKS: [&str; 9] = [" ", " ", " ", "  ", "\t", "\r", "\r\n", "\x0b", "\x0c"];
 
+/// Lines of a field form that are no fields, though some look like one.
+const WIDE_LINES: [&str; 9] = [
+    "@tïtle:x",
+    "@datä:C",
+    "@data\u{a0}:C",
+    "@\u{2003}data:C",
+    "\u{feff}@data:C",
+    "＠data:C",
+    "@data：C",
+    "Für Elise",
+    "\u{200b}",
+];
+/// Bytes that begin, continue or never stand in a sequence.
+const LEADS: [u8; 12] = [
+    0x80, 0xa0, 0xbf, 0xc0, 0xc3, 0xe0, 0xe2, 0xed, 0xf0, 0xf4, 0xf5, b'C',
+];
+
 #[derive(Clone, Copy)]
 enum Kind {
     Letter,
@@ -92,11 +110,15 @@ enum Kind {
     Blank,
     Newline,
     MeasureRest,
+    Wide,
+    WideBlank,
+    WideClef,
+    WideValue,
 }
 use Kind::*;
 
 /// All kinds, for slips.
-const KINDS: [Kind; 30] = [
+const KINDS: [Kind; 34] = [
     Letter,
     Few,
     Octave,
@@ -127,10 +149,14 @@ const KINDS: [Kind; 30] = [
     Blank,
     Newline,
     MeasureRest,
+    Wide,
+    WideBlank,
+    WideClef,
+    WideValue,
 ];
 
 /// How often the kinds of tokens stand in a line; the first suits all, the others bring out one thing.
-const MOODS: [&[(Kind, usize)]; 12] = [
+const MOODS: [&[(Kind, usize)]; 13] = [
     &[
         (Letter, 10),
         (Octave, 2),
@@ -252,6 +278,21 @@ const MOODS: [&[(Kind, usize)]; 12] = [
         (Joined, 2),
         (Bar, 2),
     ],
+    &[
+        (Letter, 8),
+        (Wide, 3),
+        (WideBlank, 3),
+        (WideClef, 2),
+        (WideValue, 2),
+        (Clef, 1),
+        (Key, 1),
+        (Meter, 1),
+        (Bar, 3),
+        (Figure, 2),
+        (Joined, 1),
+        (Tie, 1),
+        (Blank, 1),
+    ],
 ];
 
 /// Appends random texts to an empty buffer.
@@ -266,12 +307,18 @@ pub fn random_text(random: &mut Random, text: &mut Vec<u8>) {
     let kind = random.below(100);
     let mut lines = Lines { random, text };
     match kind {
-        0..58 => lines.data_line(),
-        58..75 => lines.field_form(),
-        75..91 => lines.mutated(&INCIPITS),
-        91..97 => lines.mutated(&FORMS),
+        0..57 => lines.data_line(),
+        57..74 => lines.field_form(),
+        74..89 => lines.mutated(&INCIPITS),
+        89..94 => lines.mutated(&FORMS),
+        94..97 => lines.mutated(&RECORDS),
         97..99 => lines.any_ascii(),
         _ => lines.edges(),
+    }
+    match lines.random.below(100) {
+        0..20 => lines.accented(),
+        20..22 => lines.malformed(),
+        _ => {}
     }
 }
 
@@ -288,6 +335,11 @@ impl Lines<'_> {
     fn put_byte(&mut self, from: &[u8]) {
         let byte = self.random.byte(from);
         self.text.push(byte);
+    }
+
+    fn put_character(&mut self, character: char) {
+        let mut encoded = [0; 4];
+        self.put(character.encode_utf8(&mut encoded));
     }
 
     fn repeated(&mut self, byte: u8, count: usize) {
@@ -373,7 +425,59 @@ impl Lines<'_> {
             Blank => self.put_any(&BLANKS),
             Newline => self.put("\n"),
             MeasureRest => self.put_any(&["=", "=3", "=0", "=999999"]),
+            Wide => self.wide(),
+            WideBlank => self.wide_blank(),
+            WideClef => self.wide_clef(),
+            WideValue => self.wide_value(),
         }
+    }
+
+    /// A character beyond ASCII, or one that stands beside the blanks.
+    fn wide(&mut self) {
+        let from: &[char] = match self.random.below(6) {
+            0 => &EDGES,
+            1 => &NEAR_BLANKS,
+            2 => return self.any_scalar(),
+            _ => &ACCENTED,
+        };
+        let at = self.random.below(from.len());
+        self.put_character(from[at]);
+    }
+
+    fn any_scalar(&mut self) {
+        let value = self.random.below(0x11_0000) as u32;
+        self.put_character(char::from_u32(value).unwrap_or('é'));
+    }
+
+    fn wide_blank(&mut self) {
+        let at = self.random.below(WIDE_BLANKS.len());
+        self.put_character(WIDE_BLANKS[at]);
+    }
+
+    /// Up to four characters behind `%`, of every length.
+    fn wide_clef(&mut self) {
+        self.put("%");
+        for _ in 0..1 + self.random.below(4) {
+            match self.random.below(8) {
+                0..3 => self.wide(),
+                3 => self.wide_blank(),
+                4..6 => self.put("+"),
+                _ => self.put_byte(b"G-2"),
+            }
+        }
+    }
+
+    /// A mark with a wide character inside or behind it.
+    fn wide_value(&mut self) {
+        self.put_any(&[
+            "$x", "$", "@3", "@c", "(C;", "'", "8", "8.", "x", "/", ":", ":/", "q", "C^", "=",
+        ]);
+        if self.random.percent(70) {
+            self.wide();
+        } else {
+            self.wide_blank();
+        }
+        self.put_any(&["F", "/4", "5)", "'", "6", ".", "x", "/", "//:", "q", "D"]);
     }
 
     fn octave(&mut self) {
@@ -538,16 +642,18 @@ impl Lines<'_> {
     }
 
     fn data_field(&mut self) {
-        self.put_any(&["", "", "", " ", "\t"]);
+        self.put_any(&["", "", "", " ", "\t", "", "\u{a0}"]);
         self.put("@data:");
-        self.put_any(&["", "", " ", "\x0b "]);
+        self.put_any(&["", "", " ", "\x0b ", "", "\u{3000} "]);
         self.data_line();
-        self.put_any(&["", "", "", " ", "\r", "\t "]);
+        self.put_any(&["", "", "", " ", "\r", "\t ", "", "\u{2003}", "\u{85}\r"]);
     }
 
     fn field_line(&mut self) {
         self.put_any(&["", "", "", " ", "\t", "  "]);
-        match self.random.below(16) {
+        match self.random.below(18) {
+            16 => self.title(),
+            17 => self.put_any(&WIDE_LINES),
             0 | 1 => {
                 self.put_any(&["@clef:", "@clef:", "@clef: "]);
                 self.clef();
@@ -589,6 +695,24 @@ impl Lines<'_> {
         self.put_any(&["", "", "", " ", "\t", "\r"]);
     }
 
+    /// A field that isn't read, with words of a catalogue.
+    fn title(&mut self) {
+        self.put_any(&["@title:", "@titel:", "@a:", "@Z:"]);
+        for _ in 0..self.random.below(4) {
+            self.put_any(&[
+                "Kyrie",
+                "Für",
+                "Č",
+                "Ouvertüre",
+                "Noël",
+                "漢字",
+                "𝄞",
+                "e\u{301}",
+            ]);
+            self.put_any(&[" ", " ", "\u{a0}", "\u{2009}", "-", ""]);
+        }
+    }
+
     fn spaced_key(&mut self) {
         let from = self.text.len();
         self.key();
@@ -596,7 +720,7 @@ impl Lines<'_> {
             let key = self.text.split_off(from);
             for byte in key {
                 self.text.push(byte);
-                self.put_any(&["", "", " ", "\t"]);
+                self.put_any(&["", "", " ", "\t", "", "", " ", "\u{a0}"]);
             }
         }
     }
@@ -640,6 +764,62 @@ impl Lines<'_> {
         self.text.extend(tail);
     }
 
+    /// Wide characters and blanks, put in or in the place of others, also at the ends of lines.
+    fn accented(&mut self) {
+        for _ in 0..[1, 1, 2, 3, 6][self.random.below(5)] {
+            let at = self.boundary();
+            let end = self.next_boundary(at);
+            let end = if self.random.percent(30) { end } else { at };
+            let tail = self.text.split_off(end);
+            self.text.truncate(at);
+            for _ in 0..[1, 1, 1, 2, 3][self.random.below(5)] {
+                if self.random.percent(60) {
+                    self.wide();
+                } else {
+                    self.wide_blank();
+                }
+            }
+            self.text.extend(tail);
+        }
+    }
+
+    /// An offset where a character begins; one in four stands about a line's end.
+    fn boundary(&mut self) -> usize {
+        let mut at = self.random.below(self.text.len() + 1);
+        if self.random.percent(25) {
+            let next = self.text[at..].iter().position(|byte| *byte == b'\n');
+            at = next.map_or(self.text.len(), |more| at + more);
+        }
+        while at < self.text.len() && continues(self.text[at]) {
+            at += 1;
+        }
+        at
+    }
+
+    fn next_boundary(&self, at: usize) -> usize {
+        let more = self.text[at..].iter().skip(1);
+        let size = 1 + more.take_while(|byte| continues(**byte)).count();
+        (at + size).min(self.text.len())
+    }
+
+    /// Wide characters, then a byte of one of them changed, left out or put in.
+    fn malformed(&mut self) {
+        self.accented();
+        let wide = self.text.iter().filter(|byte| **byte >= 128).count();
+        let chosen = self.random.below(wide.max(1));
+        let mut wides = (0..self.text.len()).filter(|at| self.text[*at] >= 128);
+        let Some(at) = wides.nth(chosen) else {
+            return;
+        };
+        let byte = self.random.byte(&LEADS);
+        match self.random.below(4) {
+            0 => drop(self.text.remove(at)),
+            1 => self.text.insert(at, byte),
+            2 => self.text[at] = byte,
+            _ => self.text.truncate(at),
+        }
+    }
+
     fn any_ascii(&mut self) {
         for _ in 0..self.random.below(40) {
             let byte = self.random.below(128) as u8;
@@ -647,13 +827,14 @@ impl Lines<'_> {
         }
     }
 
-    /// Blanks, and bytes of 128 and more.
+    /// Blanks of every kind, and bytes of 128 and more.
     fn edges(&mut self) {
         for _ in 0..self.random.below(5) {
-            match self.random.below(4) {
+            match self.random.below(6) {
                 0 => self.put_any(&BLANKS),
                 1 => self.put("\n"),
                 2 => self.put("C"),
+                3 | 4 => self.wide_blank(),
                 _ => {
                     let byte = 128 + self.random.below(128) as u8;
                     self.text.push(byte);
@@ -661,4 +842,9 @@ impl Lines<'_> {
             }
         }
     }
+}
+
+/// Whether the byte continues a character.
+fn continues(byte: u8) -> bool {
+    byte & 0xc0 == 0x80
 }

@@ -1,5 +1,6 @@
 //! The texts.
 
+pub mod characters;
 pub mod incipits;
 pub mod limits;
 pub mod lines;

@@ -2,19 +2,25 @@
 
 /// Calls `each` with all texts over the alphabet of at most this length, the empty one first.
 pub fn all(alphabet: &[u8], longest: usize, each: &mut impl FnMut(&[u8])) {
-    let mut text = Vec::with_capacity(longest);
-    extended(alphabet, longest, &mut text, each);
+    let letters: Vec<&[u8]> = alphabet.chunks(1).collect();
+    all_of(&letters, longest, each);
 }
 
-fn extended(alphabet: &[u8], longest: usize, text: &mut Vec<u8>, each: &mut impl FnMut(&[u8])) {
+/// Calls `each` with all texts of at most so many of the parts, the empty one first.
+pub fn all_of(parts: &[&[u8]], most: usize, each: &mut impl FnMut(&[u8])) {
+    extended(parts, most, &mut Vec::new(), each);
+}
+
+fn extended(parts: &[&[u8]], most: usize, text: &mut Vec<u8>, each: &mut impl FnMut(&[u8])) {
     each(text);
-    if text.len() == longest {
+    if most == 0 {
         return;
     }
-    for byte in alphabet {
-        text.push(*byte);
-        extended(alphabet, longest, text, each);
-        text.pop();
+    let size = text.len();
+    for part in parts {
+        text.extend_from_slice(part);
+        extended(parts, most - 1, text, each);
+        text.truncate(size);
     }
 }
 

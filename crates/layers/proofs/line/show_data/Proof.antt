@@ -5,10 +5,10 @@ use Rattle.layers.proofs.line.show_data.Statement.{statement}
 use Rattle.layers.proofs.line.show_data.Tie as tie
 
 abbrev Inv-loop : tie.InvT-loop
-Inv-loop text «data» diagnostics outcome at₀ at = at ≤ length «data»
+Inv-loop text «data» diagnostics outcome above₀ at₀ above at = (above ≤ at) × (at ≤ length «data»)
 
 abbrev μ-loop : tie.MeasureT-loop
-μ-loop text «data» diagnostics outcome at₀ at = length «data» - at
+μ-loop text «data» diagnostics outcome above₀ at₀ above at = length «data» - at
 
 pub show-data-spec : {M : Type 1} → statement M
 show-data-spec =
@@ -18,6 +18,10 @@ show-data-spec =
     μ-loop
     (λ c. search needs)
     (λ c κs. search needs)
+    (λ c. search needs)
+    (λ c. search needs)
+    (λ c. search needs)
+    (λ c. search needs)
     (λ c κs. search needs)
     (λ c. search needs)
     (λ c. search needs)

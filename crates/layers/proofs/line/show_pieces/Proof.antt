@@ -1,13 +1,14 @@
-use Prim.Native.Nat.{_-_}
+use Prim.Native.Nat.{_-_, _≤_}
+use lib.ListN.{length}
 use borrow.Author.Needs.{needs}
 use Rattle.layers.proofs.line.show_pieces.Statement.{statement}
 use Rattle.layers.proofs.line.show_pieces.Tie as tie
 
 abbrev Inv-loop : tie.InvT-loop
-Inv-loop text start end number label₀ at₀ label at = Unit {0}
+Inv-loop line number label₀ at₀ label at = at ≤ length line
 
 abbrev μ-loop : tie.MeasureT-loop
-μ-loop text start end number label₀ at₀ label at = end - at
+μ-loop line number label₀ at₀ label at = length line - at
 
 pub show-pieces-spec : {M : Type 1} → statement M
 show-pieces-spec =
@@ -18,6 +19,9 @@ show-pieces-spec =
     (λ c. search needs)
     (λ c κs. search needs)
     (λ c κs. search needs)
+    (λ c. search needs)
+    (λ c. search needs)
+    (λ c. search needs)
     (λ c κs. search needs)
     (λ c. search needs)
     (λ c. search needs)

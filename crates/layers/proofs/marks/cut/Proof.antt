@@ -6,10 +6,10 @@ use Rattle.layers.proofs.marks.cut.Statement.{statement}
 use Rattle.layers.proofs.marks.cut.Tie as tie
 
 abbrev Inv-loop : tie.InvT-loop
-Inv-loop «data» ends₀ k₀ at₀ ends k at = (k ≤ at) × (at ≤ length «data») × (length ends ≡ length ends₀)
+Inv-loop «data» ends₀ k₀ characters₀ at₀ ends k characters at = (k ≤ at) × (characters ≤ at) × (at ≤ length «data») × (length ends ≡ length ends₀)
 
 abbrev μ-loop : tie.MeasureT-loop
-μ-loop «data» ends₀ k₀ at₀ ends k at = length «data» - at
+μ-loop «data» ends₀ k₀ characters₀ at₀ ends k characters at = length «data» - at
 
 pub cut-spec : {M : Type 1} → statement M
 cut-spec =
@@ -17,6 +17,8 @@ cut-spec =
     (tie.spec
     Inv-loop
     μ-loop
+    (λ c. search needs)
+    (λ c κs. search needs)
     (λ c. search needs)
     (λ c κs. search needs)
     (λ c. search needs)

@@ -14,7 +14,7 @@ use borrow.Author.Needs.{needs}
 use borrow.Author.Tests.{ltb-true}
 use Rattle.rules.specs.Limits.{noteSize}
 use Rattle.rules.specs.Tokens as rules
-use Rattle.rules.specs.Records.{Diagnostic}
+use Rattle.rules.specs.Records.{isSome, Diagnostic}
 use Rattle.rules.specs.Words.{diagnosticWords}
 use Rattle.rules.specs.Rules.{closing}
 use Rattle.rules.specs.Diagnostics.{unless}
@@ -29,7 +29,8 @@ use Rattle.values.specs.declared.rhythm.Value.{Value}
 use Rattle.values.proofs.PatternLaws.{ready}
 use Rattle.records.specs.declared.group.Timed.{Timed}
 use Rattle.records.specs.Groups.{closingOf}
-use Rattle.decode.specs.Decode.{Decoded}
+use Rattle.character.specs.Tails.{tailsIn}
+use Rattle.decode.specs.Decode.{tokenIn, Decoded}
 use Rattle.decode.specs.declared.Figure.{Figure}
 use Rattle.decode.specs.declared.Figure.the-variants as f
 use Rattle.decode.specs.declared.Marking.{Marking}
@@ -47,7 +48,7 @@ use Rattle.checks.specs.Checks.{storing, checkOf}
 use Rattle.checks.specs.declared.Room.{Room}
 use Rattle.checks.proofs.TestLaws.{joins-some, repeated-small}
 use Rattle.diagnose.specs.Found.{countAfterAll, cellsAfterAll}
-use Rattle.remarks.specs.Remarks.{SpanFits, spanOf, itemIn, whole, clefFound, keyFound, meterFound, markFound, countFound, groupFound}
+use Rattle.remarks.specs.Remarks.{SpanFits, placeAt, valueFrom, spanOf, itemIn, whole, clefFound, keyFound, meterFound, markFound, countFound, groupFound}
 use Rattle.remarks.specs.declared.Span.{Span}
 use Rattle.reading.specs.declared.data.Outcome.{Outcome}
 use Rattle.reading.specs.Cells.{figureCopied, barCopied, notesNext, barsNext, heldNext}
@@ -56,7 +57,8 @@ use Rattle.reading.specs.Ready.{PlaceReady, Ready}
 use Rattle.reading.specs.Rhythm.{takenNext}
 use Rattle.reading.specs.Walk.{Hand, armed, withDiagnostics, remarked}
 use Rattle.reading.proofs.ClosingLaws.{closing-noted, found-noted}
-use Rattle.reading.proofs.HoldLaws.{Holds, further, not-beyond, step-ready}
+use Rattle.reading.proofs.HoldLaws.{token-bytes, Holds, further, not-beyond, step-ready}
+use Rattle.reading.proofs.PlaceLaws.{low-tails}
 use Rattle.reading.proofs.DataLaws.{begins, finishes, stops-here, advances}
 use Rattle.reading.proofs.data.read_data.Statement.{statement}
 use Rattle.reading.proofs.data.read_data.Tie as tie
@@ -64,11 +66,11 @@ use Rattle.reading.proofs.data.read_data.Tie as tie
 -- Written by tools/walk/run from tools/walk/proof.txt: change that file, not this one.
 
 abbrev Inv-loop : tie.InvT-loop
-Inv-loop «data» start diagnostics notes₀ bars₀ figure₀ scratch₀ room kept₀ pattern₀ cursor₀ st₀ table₀ at₀ notes bars figure scratch kept pattern cursor st table at =
-    Holds «data» start (attributesIn (st₀ .attributes)) diagnostics scratch₀ (length notes₀) (length bars₀) (length figure₀) room 0 at st table (keeping pattern kept) cursor notes bars figure scratch
+Inv-loop «data» start diagnostics notes₀ bars₀ figure₀ scratch₀ room kept₀ pattern₀ cursor₀ st₀ table₀ at₀ tails₀ notes bars figure scratch kept pattern cursor st table at tails =
+    Holds «data» start (attributesIn (st₀ .attributes)) diagnostics scratch₀ (length notes₀) (length bars₀) (length figure₀) room 0 at tails st table (keeping pattern kept) cursor notes bars figure scratch
 
 abbrev μ-loop : tie.MeasureT-loop
-μ-loop «data» start diagnostics notes₀ bars₀ figure₀ scratch₀ room kept₀ pattern₀ cursor₀ st₀ table₀ at₀ notes bars figure scratch kept pattern cursor st table at =
+μ-loop «data» start diagnostics notes₀ bars₀ figure₀ scratch₀ room kept₀ pattern₀ cursor₀ st₀ table₀ at₀ tails₀ notes bars figure scratch kept pattern cursor st table at tails =
     length «data» - at
 
 -- ---- a token that is cut and decoded
@@ -85,6 +87,9 @@ module _ (x : tie.After-span-of Inv-loop μ-loop) where
 
   abbrev end : ℕ
   end = x .before .before .before .token-end .result
+
+  abbrev tails : ℕ
+  tails = x .before .before .before .before .before .loop .tails
 
   abbrev st : Pae
   st = x .before .before .before .before .before .loop .st
@@ -112,7 +117,7 @@ module _ (x : tie.After-span-of Inv-loop μ-loop) where
 
   -- what the walk holds before it
   abbrev hand : Hand
-  hand = record { st = st; table = table; pattern = held; cursor = cursor; notes = notes; bars = bars; figure = figure }
+  hand = record { tails = tails; st = st; table = table; pattern = held; cursor = cursor; notes = notes; bars = bars; figure = figure }
 
   abbrev room : Room
   room = x .before .before .before .before .before .before .before .before .before .before .before .before .args .room
@@ -125,27 +130,31 @@ module _ (x : tie.After-span-of Inv-loop μ-loop) where
   joining = joinsOf (st .voice) (st .counts) notes
 
   -- what holds before a token at an offset
-  abbrev Held : ℕ → Pae → Table → Keeping → Cursor → List ℤ → List ℤ → List ℤ → List ℤ → Type 0
+  abbrev Held : ℕ → ℕ → Pae → Table → Keeping → Cursor → List ℤ → List ℤ → List ℤ → List ℤ → Type 0
   Held = Holds bytes start (attributesIn taken) (x .before .before .before .before .before .before .before .before .before .before .before .before .args .diagnostics) (x .before .before .before .before .before .before .before .before .before .before .before .before .args .scratch .now) (length (x .before .before .before .before .before .before .before .before .before .before .before .before .args .notes .now)) (length (x .before .before .before .before .before .before .before .before .before .before .before .before .args .bars .now)) (length (x .before .before .before .before .before .before .before .before .before .before .before .before .args .figure .now)) room 0
 
   -- the walk ends with this
   abbrev Ends : Attributes → Outcome → Type 0
   Ends k o = DataRead bytes start k (x .before .before .before .before .before .before .before .before .before .before .before .before .args .diagnostics) (x .before .before .before .before .before .before .before .before .before .before .before .before .args .scratch .now) (length (x .before .before .before .before .before .before .before .before .before .before .before .before .args .notes .now)) (length (x .before .before .before .before .before .before .before .before .before .before .before .before .args .bars .now)) room o notes bars scratch
 
+  -- what it is
+  decoded-here : Decoded (getD bytes at 0) (valueFrom bytes at end) (x .before .decode .result)
+  decoded-here = x .before .decode .ensures (getD bytes at 0) (valueFrom bytes at end) (token-bytes bytes at end (x .before .before .before .before .loop-test .taken) (omega (arith, x .before .before .before .token-end .ensures, token-some bytes at (x .before .before .before .before .loop-test .taken))))
+
   further-here : at < end
-  further-here = further bytes start (attributesIn taken) (x .before .before .before .before .before .before .before .before .before .before .before .before .args .diagnostics) (x .before .before .before .before .before .before .before .before .before .before .before .before .args .scratch .now) (length (x .before .before .before .before .before .before .before .before .before .before .before .before .args .notes .now)) (length (x .before .before .before .before .before .before .before .before .before .before .before .before .args .bars .now)) (length (x .before .before .before .before .before .before .before .before .before .before .before .before .args .figure .now)) room 0 (x .before .before .before .before .before .loop .inv) (x .before .before .before .before .loop-test .taken) end (x .before .before .before .token-end .ensures) (x .before .decode .result) (x .before .decode .ensures) joining refl
+  further-here = further bytes start (attributesIn taken) (x .before .before .before .before .before .before .before .before .before .before .before .before .args .diagnostics) (x .before .before .before .before .before .before .before .before .before .before .before .before .args .scratch .now) (length (x .before .before .before .before .before .before .before .before .before .before .before .before .args .notes .now)) (length (x .before .before .before .before .before .before .before .before .before .before .before .before .args .bars .now)) (length (x .before .before .before .before .before .before .before .before .before .before .before .before .args .figure .now)) room 0 (x .before .before .before .before .before .loop .inv) (x .before .before .before .before .loop-test .taken) end (x .before .before .before .token-end .ensures) (x .before .decode .result) decoded-here joining refl
 
   within-here : end ≤ length bytes
-  within-here = not-beyond bytes start (attributesIn taken) (x .before .before .before .before .before .before .before .before .before .before .before .before .args .diagnostics) (x .before .before .before .before .before .before .before .before .before .before .before .before .args .scratch .now) (length (x .before .before .before .before .before .before .before .before .before .before .before .before .args .notes .now)) (length (x .before .before .before .before .before .before .before .before .before .before .before .before .args .bars .now)) (length (x .before .before .before .before .before .before .before .before .before .before .before .before .args .figure .now)) room 0 (x .before .before .before .before .before .loop .inv) (x .before .before .before .before .loop-test .taken) end (x .before .before .before .token-end .ensures) (x .before .decode .result) (x .before .decode .ensures) joining refl
+  within-here = not-beyond bytes start (attributesIn taken) (x .before .before .before .before .before .before .before .before .before .before .before .before .args .diagnostics) (x .before .before .before .before .before .before .before .before .before .before .before .before .args .scratch .now) (length (x .before .before .before .before .before .before .before .before .before .before .before .before .args .notes .now)) (length (x .before .before .before .before .before .before .before .before .before .before .before .before .args .bars .now)) (length (x .before .before .before .before .before .before .before .before .before .before .before .before .args .figure .now)) room 0 (x .before .before .before .before .before .loop .inv) (x .before .before .before .before .loop-test .taken) end (x .before .before .before .token-end .ensures) (x .before .decode .result) decoded-here joining refl
 
   -- its place, and where its diagnostics stand
-  place-is : x .span-of .result .place .0 ≡ at + 1
+  place-is : x .span-of .result .place .0 ≡ placeAt at tails
   place-is = ap (λ (s : Span). s .place .0) (x .span-of .ensures)
 
   fits-here : SpanFits (x .span-of .result)
   fits-here = rw (x .span-of .ensures) (omega (arith, x .before .before .before .before .loop-test .taken, x .before .before .before .before .before .before .before .before .before .before .before .before .pre .short), omega (arith, further-here), omega (arith, further-here, within-here, x .before .before .before .before .before .before .before .before .before .before .before .before .pre .ends))
 
-  found-here : (what : rules.Item → List Diagnostic) {words : List (List ℤ)} → words ≡ map diagnosticWords (what (itemIn (x .span-of .result))) → words ≡ map diagnosticWords (what (itemIn (spanOf at end start)))
+  found-here : (what : rules.Item → List Diagnostic) {words : List (List ℤ)} → words ≡ map diagnosticWords (what (itemIn (x .span-of .result))) → words ≡ map diagnosticWords (what (itemIn (spanOf (placeAt at tails) at end start)))
   found-here what e = e ∙ ap (λ (s : Span). map diagnosticWords (what (itemIn s))) (x .span-of .ensures)
 
   -- the notes stand in the cells
@@ -153,8 +162,12 @@ module _ (x : tie.After-span-of Inv-loop μ-loop) where
   held-here = let w = x .before .before .before .before .before .loop .inv in omega (arith, w .related .stored .fits, length-notes (w .related .stored))
 
   module _ {token : Token} (is : x .before .decode .result ≡ token) where
-    decoded-as : Decoded (getD bytes at 0) (end - at) token
-    decoded-as = subst (Decoded (getD bytes at 0) (end - at)) is (x .before .decode .ensures)
+    decoded-as : Decoded (getD bytes at 0) (valueFrom bytes at end) token
+    decoded-as = subst (Decoded (getD bytes at 0) (valueFrom bytes at end)) is decoded-here
+
+    -- a blank or a token without a rule that begins with a byte below 128 has no byte that continues a character
+    low-here : isSome (rules.clefIn (tokenIn (getD bytes at 0) (valueFrom bytes at end) token)) ≡ false → getD bytes at 0 < 128 → tails ≡ tails + tailsIn (valueFrom bytes at end)
+    low-here none low = low-tails bytes at end tails (x .before .before .before .before .loop-test .taken) further-here within-here (x .before .before .before .token-end .ensures) (x .before .before .before .before .before .loop .inv .tailed) token decoded-as none low
 
     -- what its arm makes of the hand; joined: a letter would join
     abbrev made : Bool → Hand
@@ -165,7 +178,7 @@ module _ (x : tie.After-span-of Inv-loop μ-loop) where
       stop-here : {o : Outcome} (number : ℕ) → o ≡ record { number = number; place = x .span-of .result .place .0; st = st } → number ≡ checkOf token st joined notes room → (number ≡ 0 → ⊥) → Ends (x .before .before .before .before .before .before .before .before .before .before .before .before .args .attributes) o
       stop-here number stopped fails z =
           subst (Ends (x .before .before .before .before .before .before .before .before .before .before .before .before .args .attributes)) (sym (stopped ∙ (λ i. record { number = number; place = place-is i; st = st })))
-          (subst (λ (k : Attributes). Ends k (record { number = number; place = at + 1; st = st })) (ap (λ (k : Pae). k .attributes) (x .before .before .before .before .before .before .before .begin .ensures))
+          (subst (λ (k : Attributes). Ends k (record { number = number; place = placeAt at tails; st = st })) (ap (λ (k : Pae). k .attributes) (x .before .before .before .before .before .before .before .begin .ensures))
           (stops-here bytes start (x .before .before .before .before .before .before .before .before .before .before .before .before .args .diagnostics) (x .before .before .before .before .before .before .before .before .before .before .before .before .args .scratch .now) room taken (x .before .before .before .before .before .loop .inv) (x .before .before .before .before .loop-test .taken) end (x .before .before .before .token-end .ensures) token decoded-as joined joins number fails z))
 
       -- every check passes
@@ -174,34 +187,43 @@ module _ (x : tie.After-span-of Inv-loop μ-loop) where
         ready-here =
             step-ready bytes start (attributesIn taken) (x .before .before .before .before .before .before .before .before .before .before .before .before .args .diagnostics) (x .before .before .before .before .before .before .before .before .before .before .before .before .args .scratch .now) (length (x .before .before .before .before .before .before .before .before .before .before .before .before .args .notes .now)) (length (x .before .before .before .before .before .before .before .before .before .before .before .before .args .bars .now)) (length (x .before .before .before .before .before .before .before .before .before .before .before .before .args .figure .now)) room 0 (x .before .before .before .before .before .loop .inv) (x .before .before .before .before .loop-test .taken) end (x .before .before .before .token-end .ensures) token decoded-as joined joins passes (x .before .before .before .before .before .before .before .before .before .before .before .before .pre .notesRoom) (x .before .before .before .before .before .before .before .before .before .before .before .before .pre .barsRoom) (x .before .before .before .before .before .before .before .before .before .before .before .before .pre .short) (x .before .before .before .before .before .before .before .before .before .before .before .before .pre .figureRoom)
 
-        -- it diagnoses what was found, and all else is what `armed` says
-        go-on : {found : List (List ℤ)} → found ≡ remarked token st notes bytes start at end
+        -- so many bytes up to its end continue a character, it diagnoses what was found, and all else is what `armed` says
+        wide-on : {found : List (List ℤ)} {tails′ : ℕ} → tails′ ≡ made joined .tails → found ≡ remarked token st notes bytes start tails at end
             → {st′ : Pae} {count : ℕ} {table′ : Table} {k : Keeping} {cursor′ : Cursor} {notes′ bars′ held′ scratch′ : List ℤ}
             → count ≡ countAfterAll (st .diagnostics) found → scratch′ ≡ cellsAfterAll scratch (st .diagnostics) found
             → table′ ≡ made joined .table → st′ ≡ withDiagnostics count (made joined .st) → k ≡ made joined .pattern → cursor′ ≡ made joined .cursor
             → notes′ ≡ made joined .notes → bars′ ≡ made joined .bars → held′ ≡ made joined .figure
             → length bars′ ≡ length bars → length held′ ≡ length figure → length scratch′ ≡ length scratch
-            → Held end st′ table′ k cursor′ notes′ bars′ held′ scratch′
-        go-on words counts cells =
+            → Held end tails′ st′ table′ k cursor′ notes′ bars′ held′ scratch′
+        wide-on continued words counts cells =
             advances bytes start (x .before .before .before .before .before .before .before .before .before .before .before .before .args .diagnostics) (x .before .before .before .before .before .before .before .before .before .before .before .before .args .scratch .now) room taken (x .before .before .before .before .before .loop .inv) (x .before .before .before .before .loop-test .taken) end (x .before .before .before .token-end .ensures) token decoded-as joined joins passes (x .before .before .before .before .before .before .before .before .before .before .before .before .pre .notesRoom) (x .before .before .before .before .before .before .before .before .before .before .before .before .pre .barsRoom)
-            (counts ∙ ap (countAfterAll (st .diagnostics)) words) (cells ∙ ap (cellsAfterAll scratch (st .diagnostics)) words)
+            continued (counts ∙ ap (countAfterAll (st .diagnostics)) words) (cells ∙ ap (cellsAfterAll scratch (st .diagnostics)) words)
+
+        -- its arm leaves the bytes that continue a character alone
+        go-on : {found : List (List ℤ)} → found ≡ remarked token st notes bytes start tails at end
+            → {st′ : Pae} {count : ℕ} {table′ : Table} {k : Keeping} {cursor′ : Cursor} {notes′ bars′ held′ scratch′ : List ℤ}
+            → count ≡ countAfterAll (st .diagnostics) found → scratch′ ≡ cellsAfterAll scratch (st .diagnostics) found
+            → table′ ≡ made joined .table → st′ ≡ withDiagnostics count (made joined .st) → k ≡ made joined .pattern → cursor′ ≡ made joined .cursor
+            → notes′ ≡ made joined .notes → bars′ ≡ made joined .bars → held′ ≡ made joined .figure
+            → length bars′ ≡ length bars → length held′ ≡ length figure → length scratch′ ≡ length scratch
+            → Held end (made joined .tails) st′ table′ k cursor′ notes′ bars′ held′ scratch′
+        go-on words counts cells = wide-on refl words counts cells
 
         -- it diagnoses nothing, and all else is what `armed` says
-        silent : remarked token st notes bytes start at end ≡ []
+        silent : remarked token st notes bytes start tails at end ≡ []
             → {st′ : Pae} {table′ : Table} {k : Keeping} {cursor′ : Cursor} {notes′ bars′ : List ℤ}
             → table′ ≡ made joined .table → st′ ≡ withDiagnostics (st .diagnostics) (made joined .st) → k ≡ made joined .pattern → cursor′ ≡ made joined .cursor
             → notes′ ≡ made joined .notes → bars′ ≡ made joined .bars → figure ≡ made joined .figure
             → length bars′ ≡ length bars
-            → Held end st′ table′ k cursor′ notes′ bars′ figure scratch
+            → Held end (made joined .tails) st′ table′ k cursor′ notes′ bars′ figure scratch
         silent none table state pattern cursors cells stored kept bounded =
-            advances bytes start (x .before .before .before .before .before .before .before .before .before .before .before .before .args .diagnostics) (x .before .before .before .before .before .before .before .before .before .before .before .before .args .scratch .now) room taken (x .before .before .before .before .before .loop .inv) (x .before .before .before .before .loop-test .taken) end (x .before .before .before .token-end .ensures) token decoded-as joined joins passes (x .before .before .before .before .before .before .before .before .before .before .before .before .pre .notesRoom) (x .before .before .before .before .before .before .before .before .before .before .before .before .pre .barsRoom)
-            (ap (countAfterAll (st .diagnostics)) (sym none)) (ap (cellsAfterAll scratch (st .diagnostics)) (sym none)) table state pattern cursors cells stored kept bounded refl refl
+            wide-on refl (sym none) refl refl table state pattern cursors cells stored kept bounded refl refl
 
     -- a token that is never refused or diagnosed and touches the state alone, if that
-    quiet : checkOf token st joining notes room ≡ 0 → remarked token st notes bytes start at end ≡ [] → {st′ : Pae}
+    quiet : checkOf token st joining notes room ≡ 0 → remarked token st notes bytes start tails at end ≡ [] → {st′ : Pae}
         → st′ ≡ withDiagnostics (st .diagnostics) (made joining .st) → table ≡ made joining .table → held ≡ made joining .pattern → cursor ≡ made joining .cursor
         → notes ≡ made joining .notes → bars ≡ made joining .bars → figure ≡ made joining .figure
-        → Held end st′ table held cursor notes bars figure scratch
+        → Held end (made joining .tails) st′ table held cursor notes bars figure scratch
     quiet passes none state table pattern cursors cells stored kept = silent joining refl passes none table state pattern cursors cells stored kept refl
 
 -- ---- the needs
@@ -226,17 +248,20 @@ loop-holds c =
 token-end-requires : tie.Need-token-end-requires Inv-loop μ-loop
 token-end-requires c κs = c .loop-test .taken
 
-shared-slice-read-decode : tie.Need-shared-slice-read-decode Inv-loop μ-loop
-shared-slice-read-decode c = c .before .before .loop-test .taken
-
 sub-decode : tie.Need-sub-decode Inv-loop μ-loop
-sub-decode c = omega (arith, c .before .token-end .ensures)
+sub-decode c = omega (arith, c .token-end .ensures)
+
+part-decode-start : tie.Need-part-decode-start Inv-loop μ-loop
+part-decode-start c = omega (arith, c .token-end .ensures)
+
+part-decode-end : tie.Need-part-decode-end Inv-loop μ-loop
+part-decode-end c = omega (arith, c .token-end .ensures, token-within (c .before .before .before .before .before .before .before .before .before .args .«data» .now) (c .before .before .loop .at) (c .before .loop-test .taken))
 
 decode-requires : tie.Need-decode-requires Inv-loop μ-loop
-decode-requires c κs = omega (arith, c .before .token-end .ensures, token-some (c .before .before .before .before .before .before .before .before .before .before .args .«data» .now) (c .before .before .before .loop .at) (c .before .before .loop-test .taken))
+decode-requires c κs = let t = c .before .before .before .before .before .before .before .before .before .before .args .«data» .now in let l = c .before .before .before .loop .at in rw (token-bytes t l (c .before .token-end .result) (c .before .before .loop-test .taken) (omega (arith, c .before .token-end .ensures, token-some t l (c .before .before .loop-test .taken)))) (omega arith)
 
 span-of-requires : tie.Need-span-of-requires Inv-loop μ-loop
-span-of-requires c κs = (omega (arith, c .before .before .token-end .ensures, token-some (c .before .before .before .before .before .before .before .before .before .before .before .args .«data» .now) (c .before .before .before .before .loop .at) (c .before .before .before .loop-test .taken)), omega (arith, c .before .before .token-end .ensures, token-within (c .before .before .before .before .before .before .before .before .before .before .before .args .«data» .now) (c .before .before .before .before .loop .at) (c .before .before .before .loop-test .taken), c .before .before .before .before .before .before .before .before .before .before .before .pre .ends))
+span-of-requires c κs = (omega (arith, c .before .before .token-end .ensures, token-some (c .before .before .before .before .before .before .before .before .before .before .before .args .«data» .now) (c .before .before .before .before .loop .at) (c .before .before .before .loop-test .taken)), omega (arith, c .before .before .token-end .ensures, token-within (c .before .before .before .before .before .before .before .before .before .before .before .args .«data» .now) (c .before .before .before .before .loop .at) (c .before .before .before .loop-test .taken), c .before .before .before .before .before .before .before .before .before .before .before .pre .ends), c .before .before .before .before .loop .inv .tailed)
 
 enum-told : tie.Need-enum-told Inv-loop μ-loop
 enum-told c = search needs
@@ -268,19 +293,22 @@ store-found-requires c κs = tt
 clef-requires : tie.Need-clef-requires Inv-loop μ-loop
 clef-requires c κs = tt
 
+tails-after-requires : tie.Need-tails-after-requires Inv-loop μ-loop
+tails-after-requires c κs = (further-here (c .before .before .before .before .before .before .before .before .before .before), within-here (c .before .before .before .before .before .before .before .before .before .before), c .before .before .before .before .before .before .before .before .before .before .before .before .before .before .before .loop .inv .tailed)
+
 loop-less : tie.Need-loop-less Inv-loop μ-loop
-loop-less c = omega (arith, further-here (c .before .before .before .before .before .before .before .before .before .before), within-here (c .before .before .before .before .before .before .before .before .before .before))
+loop-less c = omega (arith, further-here (c .before .before .before .before .before .before .before .before .before .before .before), within-here (c .before .before .before .before .before .before .before .before .before .before .before))
 
 loop-again : tie.Need-loop-again Inv-loop μ-loop
 unfolding remarked stepped takenNext notesNext barsNext heldNext
 loop-again c =
-    let l = c .before .before .before .before .before .before .before .before .before .before .before .before .before .before .before .loop in
-    let h = c .before .before .before .before .before .before .before .has-content .ensures in
-    let v = c .before .before .before .before .before .clef-of .ensures in
-    let r = c .before .before .store-found in
-    let words = c .before .before .before .before .clef-remarks .ensures ∙ (λ i. map diagnosticWords (clefFound (h i) (v i) (itemIn (c .before .before .before .before .before .before .before .before .before .before .span-of .ensures i)))) in
-    go-on (c .before .before .before .before .before .before .before .before .before .before) (c .before .before .before .before .before .before .before .before .enum-told .given .1) (joining (c .before .before .before .before .before .before .before .before .before .before)) refl refl words (r .ensures .0) (r .ensures .1) refl
-    (λ i. withDiagnostics (r .result) (withAttributes ((c .clef .ensures ∙ (λ j. cond (h j) (l .st .attributes) (clefSet (v j) (l .st .attributes)))) i) (l .st))) refl refl refl refl refl refl refl (r .kept .0)
+    let l = c .before .before .before .before .before .before .before .before .before .before .before .before .before .before .before .before .loop in
+    let h = c .before .before .before .before .before .before .before .before .has-content .ensures in
+    let v = c .before .before .before .before .before .before .clef-of .ensures in
+    let r = c .before .before .before .store-found in
+    let words = c .before .before .before .before .before .clef-remarks .ensures ∙ (λ i. map diagnosticWords (clefFound (h i) (v i) (itemIn (c .before .before .before .before .before .before .before .before .before .before .before .span-of .ensures i)))) in
+    wide-on (c .before .before .before .before .before .before .before .before .before .before .before) (c .before .before .before .before .before .before .before .before .before .enum-told .given .1) (joining (c .before .before .before .before .before .before .before .before .before .before .before)) refl refl (c .tails-after .ensures) words (r .ensures .0) (r .ensures .1) refl
+    (λ i. withDiagnostics (r .result) (withAttributes ((c .before .clef .ensures ∙ (λ j. cond (h j) (l .st .attributes) (clefSet (v j) (l .st .attributes)))) i) (l .st))) refl refl refl refl refl refl refl (r .kept .0)
 
 enum-told-2 : tie.Need-enum-told-2 Inv-loop μ-loop
 enum-told-2 c = search needs
@@ -962,7 +990,7 @@ unfolding remarked stepped takenNext notesNext barsNext heldNext
 loop-again-21 c =
     let s = c .before .before .before .before .before .before .before .before .before .before .before .before .before .before .before .before .before .before .before .before .before .before .before .before .loop .st in
     let r = c .before .before .before .before .before .store-found10 in
-    let words = found-here (c .before .before .before .before .before .before .before .before .before .before .before .before .before .before .before .before .before .before .before) (groupFound (s .groups) (s .counts) (closingOf (c .before .before .before .before .before .before .before .before .group-closing .result))) (c .before .before .before .before .before .before .before .group-found .ensures) ∙ ap (map diagnosticWords) (found-noted (s .groups) (s .counts) (itemIn (spanOf (c .before .before .before .before .before .before .before .before .before .before .before .before .before .before .before .before .before .before .before .before .before .before .before .before .loop .at) (c .before .before .before .before .before .before .before .before .before .before .before .before .before .before .before .before .before .before .before .before .before .before .token-end .result) (c .before .before .before .before .before .before .before .before .before .before .before .before .before .before .before .before .before .before .before .before .before .before .before .before .before .before .before .before .before .before .before .args .start))) (λ n. c .before .before .before .before .before .before .before .before .group-closing .ensures ∙ ap (λ (k : Timed). closing (k .count) (countIn (c .before .before .before .before .before .before .before .before .before .before .before .before .before .before .before .before .before .before .before .before .before .before .before .before .loop .st .groups .count))) (c .before .before .before .before .before .before .before .before .before .before .before .before .group-timed .ensures) ∙ closing-noted (c .before .before .before .before .before .before .before .before .before .before .before .before .before .before .before .before .before .before .before .before .before .before .before .before .loop .st .groups) (c .before .before .before .before .before .before .before .before .before .before .before .before .before .before .before .before .before .before .before .before .before .before .before .before .loop .st .counts) (c .before .before .before .before .before .before .before .before .before .before .before .before .before .before .before .before .before .before .before .before .before .before .before .before .loop .notes) n)) in
+    let words = found-here (c .before .before .before .before .before .before .before .before .before .before .before .before .before .before .before .before .before .before .before) (groupFound (s .groups) (s .counts) (closingOf (c .before .before .before .before .before .before .before .before .group-closing .result))) (c .before .before .before .before .before .before .before .group-found .ensures) ∙ ap (map diagnosticWords) (found-noted (s .groups) (s .counts) (itemIn (spanOf (placeAt (c .before .before .before .before .before .before .before .before .before .before .before .before .before .before .before .before .before .before .before .before .before .before .before .before .loop .at) (c .before .before .before .before .before .before .before .before .before .before .before .before .before .before .before .before .before .before .before .before .before .before .before .before .loop .tails)) (c .before .before .before .before .before .before .before .before .before .before .before .before .before .before .before .before .before .before .before .before .before .before .before .before .loop .at) (c .before .before .before .before .before .before .before .before .before .before .before .before .before .before .before .before .before .before .before .before .before .before .token-end .result) (c .before .before .before .before .before .before .before .before .before .before .before .before .before .before .before .before .before .before .before .before .before .before .before .before .before .before .before .before .before .before .before .args .start))) (λ n. c .before .before .before .before .before .before .before .before .group-closing .ensures ∙ ap (λ (k : Timed). closing (k .count) (countIn (c .before .before .before .before .before .before .before .before .before .before .before .before .before .before .before .before .before .before .before .before .before .before .before .before .loop .st .groups .count))) (c .before .before .before .before .before .before .before .before .before .before .before .before .group-timed .ensures) ∙ closing-noted (c .before .before .before .before .before .before .before .before .before .before .before .before .before .before .before .before .before .before .before .before .before .before .before .before .loop .st .groups) (c .before .before .before .before .before .before .before .before .before .before .before .before .before .before .before .before .before .before .before .before .before .before .before .before .loop .st .counts) (c .before .before .before .before .before .before .before .before .before .before .before .before .before .before .before .before .before .before .before .before .before .before .before .before .loop .notes) n)) in
     go-on (c .before .before .before .before .before .before .before .before .before .before .before .before .before .before .before .before .before .before .before) (c .before .before .before .before .before .before .before .before .before .before .before .before .before .before .before .before .before .token8 .given .1 ∙ ap (λ (w : Marking). t.Marking w) (c .before .before .before .before .before .before .before .before .before .before .before .before .before .before .enum-told15 .given .1)) (joining (c .before .before .before .before .before .before .before .before .before .before .before .before .before .before .before .before .before .before .before)) refl (sym (c .before .before .before .before .before .before .before .before .before .before .check-group .ensures) ∙ c .before .before .before .before .before .before .before .before .before .if7 .left) words (r .ensures .0) (r .ensures .1) refl
     (λ i. withDiagnostics (r .result) (withGroups (c .paren-closed .ensures i) s)) refl refl (c .before .before .close-paren .ensures) refl refl refl refl (r .kept .0)
 
@@ -1045,12 +1073,25 @@ loop-again-23 c =
 enum-told-18 : tie.Need-enum-told-18 Inv-loop μ-loop
 enum-told-18 c = search needs
 
+shared-slice-read-if9 : tie.Need-shared-slice-read-if9 Inv-loop μ-loop
+shared-slice-read-if9 c = c .before .before .before .before .before .before .before .loop-test .taken
+
 loop-less-24 : tie.Need-loop-less-24 Inv-loop μ-loop
-loop-less-24 c = omega (arith, further-here (c .before .before), within-here (c .before .before))
+loop-less-24 c = omega (arith, further-here (c .before .before .before .before), within-here (c .before .before .before .before))
 
 loop-again-24 : tie.Need-loop-again-24 Inv-loop μ-loop
 unfolding remarked stepped takenNext notesNext barsNext heldNext
-loop-again-24 c = quiet (c .before .before) (c .enum-told18 .given .1) refl refl (refl) refl refl refl refl refl refl
+loop-again-24 c = wide-on (c .before .before .before .before) (c .before .before .enum-told18 .given .1) (joining (c .before .before .before .before)) refl refl (low-here (c .before .before .before .before) (c .before .before .enum-told18 .given .1) refl (c .if9 .taken)) refl refl refl refl refl refl refl refl refl refl refl refl refl
+
+tails-after-requires-2 : tie.Need-tails-after-requires-2 Inv-loop μ-loop
+tails-after-requires-2 c κs = (further-here (c .before .before .before .before), within-here (c .before .before .before .before), c .before .before .before .before .before .before .before .before .before .loop .inv .tailed)
+
+loop-less-25 : tie.Need-loop-less-25 Inv-loop μ-loop
+loop-less-25 c = omega (arith, further-here (c .before .before .before .before .before), within-here (c .before .before .before .before .before))
+
+loop-again-25 : tie.Need-loop-again-25 Inv-loop μ-loop
+unfolding remarked stepped takenNext notesNext barsNext heldNext
+loop-again-25 c = wide-on (c .before .before .before .before .before) (c .before .before .before .enum-told18 .given .1) (joining (c .before .before .before .before .before)) refl refl (c .tails-after2 .ensures) refl refl refl refl refl refl refl refl refl refl refl refl refl
 
 enum-told-19 : tie.Need-enum-told-19 Inv-loop μ-loop
 enum-told-19 c = search needs
@@ -1061,12 +1102,12 @@ whole-requires-2 c κs = fits-here (c .before .before)
 store-found-requires-13 : tie.Need-store-found-requires-13 Inv-loop μ-loop
 store-found-requires-13 c κs = tt
 
-loop-less-25 : tie.Need-loop-less-25 Inv-loop μ-loop
-loop-less-25 c = omega (arith, further-here (c .before .before .before .before .before .before), within-here (c .before .before .before .before .before .before))
+loop-less-26 : tie.Need-loop-less-26 Inv-loop μ-loop
+loop-less-26 c = omega (arith, further-here (c .before .before .before .before .before .before), within-here (c .before .before .before .before .before .before))
 
-loop-again-25 : tie.Need-loop-again-25 Inv-loop μ-loop
+loop-again-26 : tie.Need-loop-again-26 Inv-loop μ-loop
 unfolding remarked stepped takenNext notesNext barsNext heldNext
-loop-again-25 c =
+loop-again-26 c =
     let r = c .before .store-found13 in
     go-on (c .before .before .before .before .before .before) (c .before .before .before .before .enum-told19 .given .1) (joining (c .before .before .before .before .before .before)) refl refl (found-here (c .before .before .before .before .before .before) (λ y. whole 9 y ∷ []) (c .before .before .before .whole2 .ensures)) (r .ensures .0) (r .ensures .1) refl (refl) refl refl refl refl refl refl refl (r .kept .0)
 
@@ -1100,14 +1141,29 @@ whole-requires-3 c κs = fits-here (c .before .before)
 store-found-requires-14 : tie.Need-store-found-requires-14 Inv-loop μ-loop
 store-found-requires-14 c κs = tt
 
-loop-less-26 : tie.Need-loop-less-26 Inv-loop μ-loop
-loop-less-26 c = omega (arith, further-here (c .before .before .before .before .before .before), within-here (c .before .before .before .before .before .before))
+shared-slice-read-if10 : tie.Need-shared-slice-read-if10 Inv-loop μ-loop
+shared-slice-read-if10 c = c .before .before .before .before .before .before .before .before .before .before .before .loop-test .taken
 
-loop-again-26 : tie.Need-loop-again-26 Inv-loop μ-loop
+loop-less-27 : tie.Need-loop-less-27 Inv-loop μ-loop
+loop-less-27 c = omega (arith, further-here (c .before .before .before .before .before .before .before .before), within-here (c .before .before .before .before .before .before .before .before))
+
+loop-again-27 : tie.Need-loop-again-27 Inv-loop μ-loop
 unfolding remarked stepped takenNext notesNext barsNext heldNext
-loop-again-26 c =
-    let r = c .before .store-found14 in
-    go-on (c .before .before .before .before .before .before) (c .before .before .before .before .enum-told21 .given .1) (joining (c .before .before .before .before .before .before)) refl refl (found-here (c .before .before .before .before .before .before) (λ y. whole 15 y ∷ []) (c .before .before .before .whole3 .ensures)) (r .ensures .0) (r .ensures .1) refl (refl) refl refl refl refl refl refl refl (r .kept .0)
+loop-again-27 c =
+    let r = c .before .before .before .store-found14 in
+    wide-on (c .before .before .before .before .before .before .before .before) (c .before .before .before .before .before .before .enum-told21 .given .1) (joining (c .before .before .before .before .before .before .before .before)) refl refl (low-here (c .before .before .before .before .before .before .before .before) (c .before .before .before .before .before .before .enum-told21 .given .1) refl (c .if10 .taken)) (found-here (c .before .before .before .before .before .before .before .before) (λ y. whole 15 y ∷ []) (c .before .before .before .before .before .whole3 .ensures)) (r .ensures .0) (r .ensures .1) refl (refl) refl refl refl refl refl refl refl (r .kept .0)
+
+tails-after-requires-3 : tie.Need-tails-after-requires-3 Inv-loop μ-loop
+tails-after-requires-3 c κs = (further-here (c .before .before .before .before .before .before .before .before), within-here (c .before .before .before .before .before .before .before .before), c .before .before .before .before .before .before .before .before .before .before .before .before .before .loop .inv .tailed)
+
+loop-less-28 : tie.Need-loop-less-28 Inv-loop μ-loop
+loop-less-28 c = omega (arith, further-here (c .before .before .before .before .before .before .before .before .before), within-here (c .before .before .before .before .before .before .before .before .before))
+
+loop-again-28 : tie.Need-loop-again-28 Inv-loop μ-loop
+unfolding remarked stepped takenNext notesNext barsNext heldNext
+loop-again-28 c =
+    let r = c .before .before .before .before .store-found14 in
+    wide-on (c .before .before .before .before .before .before .before .before .before) (c .before .before .before .before .before .before .before .enum-told21 .given .1) (joining (c .before .before .before .before .before .before .before .before .before)) refl refl (c .tails-after3 .ensures) (found-here (c .before .before .before .before .before .before .before .before .before) (λ y. whole 15 y ∷ []) (c .before .before .before .before .before .before .whole3 .ensures)) (r .ensures .0) (r .ensures .1) refl (refl) refl refl refl refl refl refl refl (r .kept .0)
 
 same-length-37 : tie.Need-same-length-37 Inv-loop μ-loop
 same-length-37 c = length-notes (c .before .loop .inv .related .stored)
@@ -1140,8 +1196,9 @@ read-data-spec =
     cleared-requires
     loop-holds
     token-end-requires
-    shared-slice-read-decode
     sub-decode
+    part-decode-start
+    part-decode-end
     decode-requires
     span-of-requires
     enum-told
@@ -1154,6 +1211,7 @@ read-data-spec =
     clef-remarks-requires
     store-found-requires
     clef-requires
+    tails-after-requires
     loop-less
     loop-again
     enum-told-2
@@ -1375,13 +1433,17 @@ read-data-spec =
     loop-less-23
     loop-again-23
     enum-told-18
+    shared-slice-read-if9
     loop-less-24
     loop-again-24
+    tails-after-requires-2
+    loop-less-25
+    loop-again-25
     enum-told-19
     whole-requires-2
     store-found-requires-13
-    loop-less-25
-    loop-again-25
+    loop-less-26
+    loop-again-26
     enum-told-20
     stopped-requires-9
     same-length-33
@@ -1392,8 +1454,12 @@ read-data-spec =
     enum-told-21
     whole-requires-3
     store-found-requires-14
-    loop-less-26
-    loop-again-26
+    shared-slice-read-if10
+    loop-less-27
+    loop-again-27
+    tails-after-requires-3
+    loop-less-28
+    loop-again-28
     same-length-37
     same-length-38
     same-length-39

@@ -4,6 +4,7 @@ use mathlib.Core.Path.{_≡_, ap, subst, _∙_}
 use lib.ListN.{length, take, drop}
 use borrow.Author.Needs.{needs}
 use Rattle.rules.specs.Limits.{textLimit, barSize}
+use Rattle.rules.specs.Characters.{charactersIn}
 use Rattle.rules.specs.Fields.{fieldsOf}
 use Rattle.rules.specs.Reading.{Lent}
 use Rattle.rules.specs.Words.{zeros}
@@ -33,17 +34,17 @@ read-by x =
     (x .read-data .result) (x .read-data .last .1 .1 .1 .1 .0) (x .read-data .last .1 .1 .1 .1 .1 .0) (x .read-data .last .1 .1 .1 .1 .1 .1 .1 .0)) (x .before .before .before .before .before .room-in .ensures) (x .read-data .ensures)
 
 -- the check at the end, with the lent records
-end-check : (c : tie.After-check-end) → let a = c .before .before .before .before .before .before .before .before .before .before .before .before .before .before .before .before .before .before .before .args in c .check-end .result ≡ endCheck (c .before .before .before .before .before .before .before .before .read-data .result .st .counts) (roomIn (length (a .notes .now)) (length (a .bars .now)) (length (a .figure .now)) .bars) (length (take (a .fields .end - a .fields .start) (drop (a .fields .start) (a .text .now))))
+end-check : (c : tie.After-check-end) → let a = c .before .before .before .before .before .before .before .before .before .before .before .before .before .before .before .before .before .before .before .args in c .check-end .result ≡ endCheck (c .before .before .before .before .before .before .before .before .read-data .result .st .counts) (roomIn (length (a .notes .now)) (length (a .bars .now)) (length (a .figure .now)) .bars) (charactersIn (take (a .fields .end - a .fields .start) (drop (a .fields .start) (a .text .now))))
 end-check c =
     let a = c .before .before .before .before .before .before .before .before .before .before .before .before .before .before .before .before .before .before .before .args in
-    c .check-end .ensures ∙ ap (λ (room : Room). endCheck (c .before .before .before .before .before .before .before .before .read-data .result .st .counts) (room .bars) (length (take (a .fields .end - a .fields .start) (drop (a .fields .start) (a .text .now))))) (c .before .before .before .before .before .before .before .before .before .before .before .before .before .room-in .ensures)
+    c .check-end .ensures ∙ ap (λ (room : Room). endCheck (c .before .before .before .before .before .before .before .before .read-data .result .st .counts) (room .bars) (charactersIn (take (a .fields .end - a .fields .start) (drop (a .fields .start) (a .text .now))))) (c .before .before .before .before .before .before .before .before .before .before .before .before .before .room-in .ensures)
 
 -- where it passes, the bar has room and a record is stored
 end-fits : (c : tie.Else2) → let x = c .before .before .before .before .before .before .before .before .before .before in let a = x .before .before .before .before .before .before .before .before .before .before .before .args in (barCheck (x .read-data .result .st .counts) (roomIn (length (a .notes .now)) (length (a .bars .now)) (length (a .figure .now)) .bars) ≡ 0) × (x .read-data .result .st .counts .notes ≡ 0 → ⊥)
 end-fits c =
     let x = c .before .before .before .before .before .before .before .before .before .before in
     let a = x .before .before .before .before .before .before .before .before .before .before .before .args in
-    end-passes (x .read-data .result .st .counts) (roomIn (length (a .notes .now)) (length (a .bars .now)) (length (a .figure .now)) .bars) (length (take (a .fields .end - a .fields .start) (drop (a .fields .start) (a .text .now)))) (end-check (c .before .before)) (c .if2 .left)
+    end-passes (x .read-data .result .st .counts) (roomIn (length (a .notes .now)) (length (a .bars .now)) (length (a .figure .now)) .bars) (charactersIn (take (a .fields .end - a .fields .start) (drop (a .fields .start) (a .text .now)))) (end-check (c .before .before)) (c .if2 .left)
 
 read-data-requires : tie.Need-read-data-requires
 read-data-requires c κs =

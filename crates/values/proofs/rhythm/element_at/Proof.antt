@@ -4,7 +4,7 @@ use lib.ListN.{take, drop, length-take}
 use lib.Dec.{eqb}
 use borrow.Author.Needs.{needs}
 use Rattle.values.specs.Rhythm.{elementAt}
-use Rattle.text.proofs.RunLaws.{run-within}
+use Rattle.rules.proofs.Runs.{run-within}
 use Rattle.values.proofs.SliceLaws.{slice-part}
 use Rattle.values.proofs.rhythm.element_at.Statement.{statement}
 use Rattle.values.proofs.rhythm.element_at.Tie as tie

@@ -1,0 +1,3 @@
+pub mod Blanks
+pub mod Last
+pub mod Tails

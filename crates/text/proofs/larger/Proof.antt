@@ -1,8 +1,0 @@
-use borrow.Author.Tests.{le-leb, lt-leb}
-use Rattle.text.proofs.larger.Statement.{statement}
-use Rattle.text.proofs.larger.Tie as tie
-
-pub larger-spec : {M : Type 1} → statement M
-larger-spec = tie.close (tie.spec
-    (λ c. rw (le-leb _ _ (c .if1 .taken)))
-    (λ c. rw (lt-leb _ _ (c .if1 .left))))
