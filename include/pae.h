@@ -26,6 +26,7 @@ extern "C" {
 /* The limits of a reading. */
 #define PAE_MAX_TEXT 65535        /* bytes of the text */
 #define PAE_MAX_NOTES 100000      /* notes, rests and copies included */
+#define PAE_MAX_WHOLE_BARS 1000   /* bars of one rest of whole bars */
 #define PAE_MAX_PITCHES 8         /* pitches of a note */
 #define PAE_MAX_MARKS 8           /* marks of a note */
 #define PAE_DIAGNOSTIC_CELLS 1024 /* diagnostics stored, and the fewest cells to lend */
@@ -37,9 +38,9 @@ extern "C" {
 
 /* The words of a note record, and of a figure record. */
 enum {
-    PAE_NOTE_PLACE = 0,         /* data place of the token that stored it: a letter, - f or i */
+    PAE_NOTE_PLACE = 0,         /* data place of the token that stored it: a letter, - = f or i */
     PAE_NOTE_KIND = 1,          /* PAE_KIND_... */
-    PAE_NOTE_DURATION = 2,      /* PAE_DURATION_... */
+    PAE_NOTE_DURATION = 2,      /* PAE_DURATION_...; 0 for a whole-bar rest, which has none */
     PAE_NOTE_DOTS = 3,          /* 0 to 3 */
     PAE_NOTE_TIES = 4,          /* PAE_TIE_START, PAE_TIE_END, both added up, or 0 */
     PAE_NOTE_BEAM = 5,          /* PAE_BEAM_... */
@@ -47,7 +48,7 @@ enum {
     PAE_NOTE_TUPLET_NORMAL = 7, /* notes in whose time they are played; 0: no tuplet */
     PAE_NOTE_MARK_COUNT = 8,    /* 0 to PAE_MAX_MARKS */
     PAE_NOTE_MARKS = 9,         /* bit i is mark i in order of arrival: 1 trill, 0 fermata */
-    PAE_NOTE_PITCH_COUNT = 10,  /* 0 for a rest, else 1 to PAE_MAX_PITCHES */
+    PAE_NOTE_PITCH_COUNT = 10,  /* 0 for a rest of either kind, else 1 to PAE_MAX_PITCHES */
     PAE_NOTE_BAR = 11,          /* number of its bar, from 1 */
     PAE_NOTE_PITCHES = 12       /* the first pitch; unused pitches are 0 */
 };
@@ -78,7 +79,8 @@ enum {
     PAE_KIND_NOTE = 0,
     PAE_KIND_REST = 1,
     PAE_KIND_GRACE = 2,
-    PAE_KIND_SLASHED_GRACE = 3
+    PAE_KIND_SLASHED_GRACE = 3,
+    PAE_KIND_WHOLE_BAR_REST = 4 /* lasts as long as its bar; =12 stores one in each of twelve bars */
 };
 
 enum {
@@ -132,7 +134,8 @@ enum {
 };
 
 /* Why a text is refused: the number of a PaeReading, and what its place is. Checked in this order,
- * 6 to 12 at each token from the left. */
+ * 7 to 12 at each token from the left; the records and barlines of a rest of whole bars in turn, all
+ * at the place of its =. 6 is not given. */
 enum {
     PAE_ACCEPTED = 0,
     PAE_REFUSED_TOO_LARGE = 1,         /* the text is over PAE_MAX_TEXT; place 0 */
@@ -140,14 +143,13 @@ enum {
     PAE_REFUSED_MALFORMED_UTF8 = 3,    /* the text is no well-formed UTF-8; place 0 */
     PAE_REFUSED_BLANK = 4,             /* the text is blank; place 0 */
     PAE_REFUSED_NO_DATA = 5,           /* field form without a data field; place 0 */
-    PAE_REFUSED_MEASURE_REST = 6,      /* a whole-bar rest; data place of the = */
     PAE_REFUSED_TOO_MANY_NOTES = 7,    /* over PAE_MAX_NOTES; data place of the token */
     PAE_REFUSED_NOTE_RECORDS = 8,      /* over the lent note records; data place of the token */
     PAE_REFUSED_TOO_MANY_PITCHES = 9,  /* over PAE_MAX_PITCHES; data place of the letter */
     PAE_REFUSED_TOO_MANY_MARKS = 10,   /* over PAE_MAX_MARKS; data place of the t or ) */
     PAE_REFUSED_FIGURE_RECORDS = 11,   /* over the lent figure records; data place of the ! */
-    PAE_REFUSED_BAR_RECORDS = 12,      /* over the lent bar records; data place of the barline, at
-                                          the end the data's length in characters plus 1 */
+    PAE_REFUSED_BAR_RECORDS = 12,      /* over the lent bar records; data place of the barline or
+                                          the =, at the end the data's length in characters plus 1 */
     PAE_REFUSED_NO_NOTES = 13          /* the data hold no note and no rest; place 0 */
 };
 
@@ -171,7 +173,9 @@ enum {
     PAE_D_TIE_WITHOUT_NOTE = 16,     /* [tie] a + that follows no note of its bar */
     PAE_D_FIGURE_OVER_BARLINE = 17,  /* [repeat] a ! in a bar shorter than the figure's start */
     PAE_D_REPEAT_WITHOUT_FIGURE = 18, /* [repeat] an f without a figure */
-    PAE_D_REPEAT_INSIDE_BAR = 19     /* [repeat] an i that doesn't start a bar, or has none before */
+    PAE_D_REPEAT_INSIDE_BAR = 19,    /* [repeat] an i that doesn't start a bar, or has none before */
+    PAE_D_WHOLE_BAR_COUNT = 20       /* [measure-rest] an = with a count outside 1 to
+                                        PAE_MAX_WHOLE_BARS; it stores nothing */
 };
 
 /* What the place of a diagnostic counts. */
@@ -216,8 +220,9 @@ typedef struct PaeReading {
  * cell is 0, all of the figure included. Refused: every lent cell is 0.
  *
  * PAE_MAX_NOTES records each of notes, bars and figure rule out the refusals 8, 11 and 12. A text
- * without f and i needs at most a note record for each letter A to G and -, a bar record for each /
- * and one more, and as many figure records as note records.
+ * without = f and i needs at most a note record for each letter A to G and -, a bar record for each /
+ * and one more, and as many figure records as note records. An = of n bars adds n note records and
+ * n - 1 bar records.
  */
 PaeReading pae_read(const uint8_t *text, size_t text_len,
                     int32_t *notes, size_t notes_len,

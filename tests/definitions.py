@@ -15,6 +15,11 @@ oracle's answers on the text cut behind each token; those for limits 1 and 7 are
 all are looked at for one text in eight, else the stored ones and 20 more. All short texts, and every blank and every
 edge of UTF-8 at every place, are among them from a count of 9,544 on. A text that differs is cut down to a small one
 that still differs.
+
+A text with rests of whole bars (`=`), which the Rust reads otherwise, is written out for the oracle, `=3` as `-/-/-`.
+That holds but for kind, length and places, where no tie waits at the `=` and the pattern has one length; elsewhere, what
+differs stands in BY_HAND, and other texts are left out. Beyond the count there are rests of every form at every place
+where one can stand, and one text with rests for every eight.
 """
 import argparse
 import os
@@ -258,6 +263,32 @@ def wide_texts():
     return [t.encode() for t in said] + [b"C" + bytes([a, b]) + c for a in FIRST for b in SECOND for c in LATER] + [b"C" + bytes([a]) for a in range(256)]
 
 
+# rests of whole bars, good counts and bad ones, and where one can stand
+RESTS = ["=", "=1", "=2", "=3", "=02", "=0", "=00", "=1001"]
+REST_AROUND = ["%s", "C%s", "%sC", "-%s-", "C/%s", "%s/C", "%s%s", "C%sD", "%s 2C", "%s.C", "4%s8C", "8.%sC", "x%sC", "xC%sC", "C^%sD", "C^E%s^G", "C+D%sE", "%s+C", "%st", "(%s)", "(C%s)", "(%sD;5)",
+               "(%s;2)", "{%sC}", "{C%s}", "!%s!f", "!C%s!fD", "C!%sD!f", "%s/i", "%s/i/i", "%si", "$xF %sF", "%s$xF F", "F%s$xF/F", "%%F-4%s", "%s%%F-4C", "%%%sC", "@3/4%s/C", "g%sC", "q%sC", "qq%sCrD",
+               "//:%s", "%s://:%s", "C%s//", ":%s", "é%sé?", "@data:%s", "@data: C%s?\n@title:é", "@a:%s\n@data:C", "@data:%s\n@data:C"]
+# where a tie waits or the pattern is stepped: by record and word, what differs from the line written out
+DURATION, DOTS, TIES = 2, 3, 4
+BY_HAND = {
+    b"C+=": {}, b"C+=-D": {}, b"C+=D": {(2, TIES): 2}, b"C+=2D": {(3, TIES): 2}, b"C+=/D": {(2, TIES): 2}, b"C+==D": {(3, TIES): 2}, b"C+=+D": {(2, TIES): 2}, b"C+=^D": {(2, TIES): 2}, b"C+=gD": {(2, TIES): 2},
+    b"C+=D+=2D": {(2, TIES): 3, (5, TIES): 2}, b"86C=D": {(2, DURATION): 6}, b"86C=2DE": {}, b"86=CD": {(1, DURATION): 5, (2, DURATION): 6}, b"86=": {}, b"864=2qCD": {(2, DURATION): 5, (3, DURATION): 5},
+    b"8.6!C=!fD": {(4, DURATION): 6, (4, DOTS): 0},
+}
+
+
+def rest_texts():
+    said = [a.replace("%s", rest) for a in (a.replace("%%", "%") for a in REST_AROUND) for rest in RESTS]
+    return [t.encode() for t in said] + list(BY_HAND)
+
+
+def rested(r):
+    """a line with rests of whole bars between its tokens"""
+    share = r.choice([0.1, 0.2, 0.4])
+    rest = lambda: r.choice(["", "", " 4", " 8."]) + "=" + r.choice(["", "", "1", "2", "2", "3", "4", "02", "12", "0", "1001"])
+    return spiced(r, "".join((rest() if r.random() < share else "") + token for token in TOKEN.findall(data_line(r))))
+
+
 # every text of one or two of these bytes
 SHORT = "CG-^xbn',48.gqrt+!fi{}();%$@/: =\n?"
 
@@ -310,6 +341,40 @@ def prefixes(text):
     return [(text[:start + token.end()] + text[end:]).encode() for token in TOKEN.finditer(text[start:end])]
 
 
+def bars_of(token):
+    """how many bars a rest of whole bars has; 0: it is none, or its count is bad"""
+    count = int(token[1:] or 1) if token[0] == "=" else 0
+    return count if count <= 1000 else 0
+
+
+def has_rests(text):
+    """whether a token of the data that is read is an `=` token"""
+    text = decoded(text)
+    data = None if text is None else data_of(text)
+    return data is not None and any(token[0] == "=" for token in TOKEN.findall(text[data[0]:data[1]]))
+
+
+def written(text):
+    """the text with rests of whole bars written out as rests and barlines; of each place in its data, and of the one behind, the place in the text's data and whether such a rest stands there"""
+    characters = decoded(text)
+    data = None if characters is None else data_of(characters)
+    if data is None:
+        return text, []
+    start, end = data
+    said, origins = "", []
+    for token in TOKEN.finditer(characters[start:end]):
+        place, bars = token.start() + 1, bars_of(token[0])
+        said += "/".join("-" * bars) if bars else token[0]
+        origins += [(place, True)] * (2 * bars - 1) if bars else [(place + i, False) for i in range(len(token[0]))]
+    return (characters[:start] + said + characters[end:]).encode(), origins + [(end - start + 1, False)]
+
+
+def asked(texts):
+    """what the oracle is asked of the texts"""
+    texts = [written(t)[0] for t in texts]
+    return texts + [p for t in texts for p in prefixes(t)]
+
+
 # ---- what is expected
 
 NOTE, BAR, DIAGNOSTIC = 44, 10, 6  # words in a record
@@ -336,14 +401,16 @@ class Oracle:
 
 
 class Expectation:
-    """what the oracle's answers on a text and its prefixes say: where it can be refused, and the places of what is stored"""
+    """what the oracle's answers on a text, written out, and its prefixes say: where it can be refused, and the places of what is stored"""
 
     def __init__(self, text, oracle):
         self.text, self.oracle = text, oracle
+        self.written, self.origins = written(text)
         self.stops = []  # place, number, what must be lent (None: nothing helps), how many records of it
-        self.places = []  # of each record: the storing token's place, the letters' places
-        self.characters = decoded(text)
-        assert (self.characters is None) == (oracle.known[text] == "err Utf8"), text
+        self.places = []  # of each record: the places, written out, of the storing token, of its letters, of the token that first stored it
+        self.felt = []  # the places, written out, of rests that cancel a tie or step a pattern of more than one length
+        self.characters = decoded(self.written)
+        assert (self.characters is None) == (oracle.known[self.written] == "err Utf8"), text
         if self.characters is None:
             self.stops = [(0, 3, None, 0)]
         elif not self.characters.strip(BLANK):
@@ -354,27 +421,45 @@ class Expectation:
             self.follow()
         self.needed = {what: max([n for _, _, w, n in self.stops if w == what], default=0) for what in UNIT}
 
+    def at(self, place):
+        """the place in the text of a place written out"""
+        return self.origins[place - 1][0] if place else 0
+
+    def is_rest(self, place):
+        """whether a rest of whole bars was written out there"""
+        return self.origins[place - 1][1]
+
+    def covered(self):
+        return self.text in BY_HAND or not any(map(self.is_rest, self.felt))
+
     def follow(self):
         start, end = data_of(self.characters)
         first, last_bar, figure, mark = 0, [], [], None  # the open bar's first record, the last stored bar, the figure, the open `!`
+        tie, stepped = False, False  # a tie waits; the pattern has more than one length
 
         def stop(number, what=None, size=0):
-            self.stops.append((place, number, what, size))
+            self.stops.append((self.at(place), number, what, size))
 
-        for token, cut in zip(TOKEN.finditer(self.characters[start:end]), prefixes(self.text)):
+        for token, cut in zip(TOKEN.finditer(self.characters[start:end]), prefixes(self.written)):
             place, name = token.start() + 1, token[0]
             notes = [n.split(",") for n in self.oracle.records(cut, "N")]
             added, opened = len(notes) - len(self.places), len(self.places) - first
-            if name[0] == "=":
-                return stop(6)
             if added:
                 stop(8, "notes", len(notes))
+            if name == "-" and (tie or stepped):
+                self.felt.append(place)
+            if name[0].isdigit():
+                stepped = len(name.replace(".", "")) > 1
             if name == "-" or name in LETTERS and added:
-                self.places.append((place, [place] if name in LETTERS else []))
+                tie = False
+                self.places.append((place, [place] if name in LETTERS else [], place))
             elif name in LETTERS:
-                self.places[-1] = (self.places[-1][0], self.places[-1][1] + [place])
+                last, letters, origin = self.places[-1]
+                self.places[-1] = (last, letters + [place], origin)
             elif added:
-                self.places += [(place, pitches) for _, pitches in (figure if name == "f" else last_bar)]
+                self.places += [(place, letters, origin) for _, letters, origin in (figure if name == "f" else last_bar)]
+            elif name == "+" and opened and self.places[-1][1]:
+                tie = True
             assert len(notes) == len(self.places), (self.text, place)
             if any(int(n[9]) > CAPACITY for n in notes):
                 return stop(9)
@@ -392,7 +477,7 @@ class Expectation:
                 stop(12, "bars", len(self.oracle.records(cut, "B")))
         place = end - start + 1
         if len(self.places) > first:
-            stop(12, "bars", len(self.oracle.records(self.text, "B")))
+            stop(12, "bars", len(self.oracle.records(self.written, "B")))
         place = 0
         if not self.places:
             stop(13)
@@ -403,16 +488,29 @@ class Expectation:
         return next(((number, place) for place, number, what, size in self.stops if what is None or size > lent[what] // UNIT[what]), (0, 0))
 
     def stored(self):
-        """what is accepted: the counts and the stored records, as in the oracle's line but with the places and without d2's key"""
-        notes, bars, found = (self.oracle.records(self.text, kind) for kind in "NBD")
-        found = [re.sub("^2,2,([0-9]+),1,[A-Za-z]+,", r"2,2,\1,1,,", d) for d in found[:STORED]]
+        """what is accepted: the counts and the stored records, as in the oracle's line but with the places, without d2's key and with what rests of whole bars have"""
+        notes, bars = (self.oracle.records(self.written, kind) for kind in "NB")
+        found = self.found()
         line = "0,0,%d,%d,%d" % (len(notes), len(bars), len(found))
-        for words, (place, pitches) in zip(notes, self.places):
-            words = words.split(",")
-            assert len(words) == 11 + 3 * len(pitches), self.text
-            triples = [words[i:i + 3] for i in range(11, len(words), 3)]
-            line += ";N" + ",".join([str(place)] + words[:11] + [w for p, three in zip(pitches, triples) for w in [str(p)] + three])
+        for record, (words, (place, letters, origin)) in enumerate(zip(notes, self.places)):
+            words = [str(self.at(place))] + words.split(",")
+            assert len(words) == 12 + 3 * len(letters), self.text
+            if self.is_rest(origin):
+                words[1:4] = "4", "0", "0"
+            for word in range(12):
+                words[word] = str(BY_HAND.get(self.text, {}).get((record, word), words[word]))
+            triples = [words[i:i + 3] for i in range(12, len(words), 3)]
+            line += ";N" + ",".join(words[:12] + [w for p, three in zip(letters, triples) for w in [str(self.at(p))] + three])
         return line + "".join(";B" + b for b in bars) + "".join(";D" + d for d in found)
+
+    def found(self):
+        """the stored diagnostics; 99 is the oracle's number of d20"""
+        lines = []
+        for line in self.oracle.records(self.written, "D")[:STORED]:
+            number, kind, place, value_kind, _, value = line.split(",")
+            place = str(self.at(int(place))) if kind == "3" else place
+            lines.append(",".join(["20" if number == "99" else number, kind, place, value_kind, "", value]))
+        return lines
 
 
 class Case:
@@ -423,10 +521,10 @@ class Case:
         self.text = text
         self.lent = lent or lent_for(r, expectation.needed)
         self.number, place = expectation.refusal(self.lent)
-        empty = oracle.known[text] == "err Empty"
+        empty = oracle.known[expectation.written] == "err Empty"
         assert self.number not in (0, 4, 5, 13) or (self.number in (4, 5, 13)) == empty, (text, self.number)
         self.stored = "%d,%d,0,0,0" % (self.number, place) if self.number else expectation.stored()
-        self.found = [int(d.split(",")[0]) for d in oracle.records(text, "D")[:STORED]] if self.number == 0 else []
+        self.found = [int(d.split(",")[0]) for d in expectation.found()] if self.number == 0 else []
         cells = DIAGNOSTIC * self.lent["diagnostics"]
         self.looked = cells + 1 if r and r.random() < 1 / 8 else DIAGNOSTIC * len(self.found) + 20
         self.cells = "%d,%d,%d,%d" % (self.lent["notes"], self.lent["bars"], self.lent["figure"], min(cells, self.looked))
@@ -576,7 +674,7 @@ abbrev pub answer : List ℕ → ℕ → ℕ → ℕ → ℕ → ℕ → String
 answer text notes bars figure diagnostics looked = let r = read text notes bars figure diagnostics in storedShown text r ++ ";" ++ cellsShown looked r
 """
 
-# limits that need a long text or many cells: 65,536 bytes, 65,535 bytes, 131,071 notes; of malformed texts too
+# limits that need a long text or many cells: 65,536 bytes, 65,535 bytes, 131,071 notes, 100 and 1,000 bars; of malformed texts too
 LIMITS = [
     ("stored (replicate 65536 195) 0 0 0 0 0", "1,0,0,0,0"),
     ("stored (replicate 65535 195) 0 0 0 1023 0", "2,0,0,0,0"),
@@ -584,6 +682,10 @@ LIMITS = [
     ("stored (replicate 65536 32) 0 0 0 1024 0", "1,0,0,0,0"),
     ("stored (replicate 65535 32) 0 0 0 1024 0", "4,0,0,0,0"),
     ('stored (bytes "C%s") 8800000 200 8800000 1024 0' % ("/!i!f" * 16), "7,81,0,0,0"),
+    ('stored (bytes "C=100") 4443 1000 0 1024 0', "8,2,0,0,0"),
+    ('stored (bytes "C=100") 4444 999 0 1024 0', "12,6,0,0,0"),
+    ('stored (bytes "=1000") 88 20 0 1024 0', "8,1,0,0,0"),
+    ('stored (bytes "=1000") 132 10 0 1024 0', "12,1,0,0,0"),
 ]
 
 
@@ -659,7 +761,8 @@ def smaller(case, oracle):
         size = len(case.text)
         spans = sorted({size // 2, size // 4, 3, 2, 1} - {0}, reverse=True)
         texts = list(dict.fromkeys(case.text[:i] + case.text[i + n:] for n in spans for i in range(size - n + 1)))
-        oracle.ask(texts + [p for t in texts for p in prefixes(t)])
+        oracle.ask(asked(texts))
+        texts = [t for t in texts if Expectation(t, oracle).covered()]
         cases = [Case(t, oracle, lent=case.lent) for t in texts]
         errors = check([[c.statement() for c in cases]])[0] if cases else {}
         if not errors:
@@ -699,9 +802,11 @@ def main():
     texts = short_texts() + wide_texts()
     texts = r.sample(texts, min(len(texts), given.count // 2))
     texts += [random_text(r) for _ in range(given.count - len(texts))] + MANY
+    texts += rest_texts() + [rested(r) for _ in range(given.count // 8)]
     oracle = Oracle(given.oracle)
-    oracle.ask(texts + [p for t in texts for p in prefixes(t)])
-    cases = [Case(t, oracle, r) for t in texts]
+    oracle.ask(asked(texts))
+    cases = [Case(t, oracle, r) for t in texts if Expectation(t, oracle).covered()]
+    left_out = len(texts) - len(cases)
     r.shuffle(cases)
     prepare()
     batches = [cases[i:i + given.batch] for i in range(0, len(cases), given.batch)]
@@ -715,9 +820,9 @@ def main():
         print("DIFFERS   %s\nexpected  %s" % LIMITS[i])
     numbers = Counter(c.number for c in cases)
     found = Counter(d for c in cases for d in c.found)
-    print("texts: %d; different: %d" % (len(cases) + len(LIMITS), len(wrong) + len(limits)))
+    print("texts: %d, %d of them with rests of whole bars; left out: %d; different: %d" % (len(cases) + len(LIMITS), sum(has_rests(c.text) for c in cases), left_out, len(wrong) + len(limits)))
     print("accepted: %d; refused: %s" % (numbers[0], ", ".join("%d: %d" % (n, numbers[n]) for n in sorted(numbers) if n)))
-    print("diagnostics: " + ", ".join("d%d: %d" % (d, found[d]) for d in range(1, 20)))
+    print("diagnostics: " + ", ".join("d%d: %d" % (d, found[d]) for d in range(1, 21)))
     sys.exit(1 if wrong or limits else 0)
 
 

@@ -10,7 +10,8 @@ crates/vectors/README.md has the list's format.
 The texts: every kind of token after every other, in six surroundings; fields, keys, meters, clefs and counts; every
 diagnostic with its values; the limits that fit a line; texts written out for one rule each; every blank, what is taken
 for one and characters of two to four bytes, at the places where they matter; random ones. A text that the program's
-buffers, or the words and refusals that document 01 adds to the Rust, would stop isn't taken.
+buffers, or the words and refusals that document 01 adds to the Rust, would stop isn't taken, nor is one with an `=` token,
+which document 02 reads otherwise than the Rust.
 """
 import argparse
 import os
@@ -209,8 +210,8 @@ def answer(text, number, oracle):
 
 def taken(texts, oracle):
     """the texts that the program can be held to, each once, with the refusal's number"""
-    texts = [t for t in dict.fromkeys(texts) if d.decoded(t) is not None]
-    oracle.ask(texts + [p for t in texts for p in d.prefixes(t)])
+    texts = [t for t in dict.fromkeys(texts) if d.decoded(t) is not None and not d.has_rests(t)]
+    oracle.ask(d.asked(texts))
     for text in texts:
         number, _ = d.Expectation(text, oracle).refusal(LENT)
         if number in (0, 4, 5, 13):

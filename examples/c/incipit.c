@@ -57,7 +57,7 @@ static int wants_more(uint32_t number) {
            number == PAE_REFUSED_BAR_RECORDS;
 }
 
-/* Lends a record for each byte; repeats may want more. */
+/* Lends a record for each byte; repeats and rests of whole bars may want more. */
 static PaeReading read_text(const uint8_t *text, size_t length, Buffers *lent) {
     size_t records = length < PAE_MAX_NOTES ? length + 1 : PAE_MAX_NOTES;
     for (;;) {
@@ -78,7 +78,6 @@ static const char *refusal_text(uint32_t number) {
     case PAE_REFUSED_MALFORMED_UTF8: return "the text is malformed UTF-8";
     case PAE_REFUSED_BLANK: return "the text is blank";
     case PAE_REFUSED_NO_DATA: return "the text has fields, but none is @data:";
-    case PAE_REFUSED_MEASURE_REST: return "whole-bar rests (=) aren't read";
     case PAE_REFUSED_TOO_MANY_NOTES: return "too many notes";
     case PAE_REFUSED_NOTE_RECORDS: return "too few note records are lent";
     case PAE_REFUSED_TOO_MANY_PITCHES: return "too many pitches in a chord";
@@ -114,14 +113,15 @@ static void print_marks(const int32_t *note) {
 }
 
 static void print_note(const int32_t *note) {
-    static const char *const kinds[] = {"note", "rest", "grace", "slashed grace"};
+    static const char *const kinds[] = {"note", "rest", "grace", "slashed grace", "whole-bar rest"};
     static const char *const durations[] = {"longa", "breve", "whole", "half", "quarter",
                                             "eighth", "16th", "32nd", "64th", "128th"};
     static const char *const ties[] = {"", ", tie start", ", tie end", ", tie end and start"};
     static const char *const beams[] = {"", ", beam begin", ", beam", ", beam end"};
     printf("  %s", kinds[note[PAE_NOTE_KIND]]);
     print_pitches(note);
-    printf(", %s%.*s", durations[note[PAE_NOTE_DURATION]], (int)note[PAE_NOTE_DOTS], "...");
+    if (note[PAE_NOTE_KIND] != PAE_KIND_WHOLE_BAR_REST)
+        printf(", %s%.*s", durations[note[PAE_NOTE_DURATION]], (int)note[PAE_NOTE_DOTS], "...");
     fputs(ties[note[PAE_NOTE_TIES]], stdout);
     fputs(beams[note[PAE_NOTE_BEAM]], stdout);
     if (note[PAE_NOTE_TUPLET_ACTUAL] != 0)

@@ -1,5 +1,5 @@
-/* The reader from C: the thirteen proved lines, characters beyond ASCII, refusals over poisoned
- * buffers, and little lent. */
+/* The reader from C: the thirteen proved lines, rests of whole bars, characters beyond ASCII, refusals
+ * over poisoned buffers, and little lent. */
 #include "pae.h"
 
 #include <stdio.h>
@@ -150,14 +150,49 @@ static void diagnosed(void) {
     CHECK(cells[0].value_kind == PAE_VALUE_NUMBER && cells[0].start == 2);
 }
 
-static void refused_lines(void) {
+static void refused_line(void) {
     size_t note_words = RECORDS * PAE_NOTE_WORDS, bar_words = RECORDS * PAE_BAR_WORDS;
     read_line("@c:C");
     CHECK(refused(PAE_REFUSED_NO_DATA, 0));
     CHECK(rest_is_clear(note_words, bar_words, note_words, PAE_DIAGNOSTIC_CELLS));
+}
+
+static int cell(int index, int32_t number, int32_t place, int32_t start, int32_t end) {
+    return cells[index].number == number && cells[index].place == place &&
+           cells[index].value_kind == PAE_VALUE_TEXT && cells[index].start == start &&
+           cells[index].end == end;
+}
+
+static int whole_bar_rest(int note, int32_t place, int32_t bar) {
+    return word(note, PAE_NOTE_PLACE) == place && word(note, PAE_NOTE_KIND) == PAE_KIND_WHOLE_BAR_REST &&
+           are(notes, note * PAE_NOTE_WORDS + PAE_NOTE_DURATION, note * PAE_NOTE_WORDS + PAE_NOTE_BAR, 0) &&
+           word(note, PAE_NOTE_BAR) == bar &&
+           are(notes, note * PAE_NOTE_WORDS + PAE_NOTE_PITCHES, (note + 1) * PAE_NOTE_WORDS, 0);
+}
+
+static void whole_bars(void) {
+    size_t note_words = RECORDS * PAE_NOTE_WORDS, bar_words = RECORDS * PAE_BAR_WORDS;
+    int i;
     read_line("C=");
-    CHECK(refused(PAE_REFUSED_MEASURE_REST, 2));
+    CHECK(counts(2, 1, 0) && word(0, PAE_NOTE_KIND) == PAE_KIND_NOTE && whole_bar_rest(1, 2, 1));
+    read_line("=12/C");
+    CHECK(counts(13, 13, 0));
+    for (i = 0; i < 12; i++)
+        CHECK(whole_bar_rest(i, 1, i + 1) && bars[i * PAE_BAR_WORDS + PAE_BAR_NOTE_COUNT] == 1);
     CHECK(rest_is_clear(note_words, bar_words, note_words, PAE_DIAGNOSTIC_CELLS));
+    read_line("xC=2C+=C");
+    CHECK(counts(6, 2, 0) && pitch(3, PAE_PITCH_ALTER) == 0);
+    CHECK(word(3, PAE_NOTE_TIES) == PAE_TIE_START && word(5, PAE_NOTE_TIES) == PAE_TIE_END);
+    read_line("C=0");
+    CHECK(counts(1, 1, 1) && cell(0, PAE_D_WHOLE_BAR_COUNT, 2, 2, 3));
+    CHECK(cells[0].place_kind == PAE_PLACE_DATA);
+    read_line("C=1001=1");
+    CHECK(counts(2, 1, 1) && cell(0, PAE_D_WHOLE_BAR_COUNT, 2, 2, 6) && whole_bar_rest(1, 7, 1));
+    read_lent("/=3", PAE_NOTE_WORDS, 0, 0, PAE_DIAGNOSTIC_CELLS);
+    CHECK(refused(PAE_REFUSED_BAR_RECORDS, 2) && rest_is_clear(PAE_NOTE_WORDS, 0, 0, PAE_DIAGNOSTIC_CELLS));
+    read_lent("/=3", PAE_NOTE_WORDS, PAE_BAR_WORDS, 0, PAE_DIAGNOSTIC_CELLS);
+    CHECK(refused(PAE_REFUSED_NOTE_RECORDS, 2));
+    CHECK(rest_is_clear(PAE_NOTE_WORDS, PAE_BAR_WORDS, 0, PAE_DIAGNOSTIC_CELLS));
 }
 
 /* The offset of the character at a data place, as pae.h has it. */
@@ -166,12 +201,6 @@ static size_t offset_of(const char *data, int32_t place) {
     while (at < strlen(data) && ((data[at] & 0xC0) == 0x80 || --place > 0))
         at++;
     return at;
-}
-
-static int cell(int index, int32_t number, int32_t place, int32_t start, int32_t end) {
-    return cells[index].number == number && cells[index].place == place &&
-           cells[index].value_kind == PAE_VALUE_TEXT && cells[index].start == start &&
-           cells[index].end == end;
 }
 
 static void characters(void) {
@@ -245,7 +274,8 @@ int main(void) {
     rhythm();
     chords_and_figures();
     diagnosed();
-    refused_lines();
+    refused_line();
+    whole_bars();
     characters();
     malformed();
     nothing_lent();

@@ -12,7 +12,7 @@ numbers nor chains: LTS, the checker's own list of needs and places, gives both.
     @@ need NAME        the answer of the arm's next need of that name
 
 In answers the place of the need is c. c@joins is the nearest place at or before it that has the field joins (or joins2 ..), with
-that field; c@@After-joins the place alone. $name stands for one of the names in MACROS.
+that field, c@joins^2 the second nearest; c@@After-joins the place alone. $name stands for one of the names in MACROS.
 """
 import fnmatch
 import re
@@ -95,12 +95,19 @@ class Places:
             return m.group(1) + self.chain(places[m.group(1)], lambda p: p == m.group(2), m.group(2))[0]
 
         def field(m):
-            chain, at = self.chain(places[m.group(1)], lambda p: base(self.field.get(p, '')) == m.group(2), m.group(2))
+            left = int(m.group(3) or 1)
+
+            def reached(p):
+                nonlocal left
+                left -= base(self.field.get(p, '')) == m.group(2)
+                return left == 0
+
+            chain, at = self.chain(places[m.group(1)], reached, m.group(2))
             return m.group(1) + chain + ' .' + self.field[at]
 
         names = '|'.join(places)
         text = re.sub(r'\b(%s)@@([A-Za-z0-9-]+)' % names, place, text)
-        return re.sub(r'\b(%s)@([A-Za-z0-9-]+)' % names, field, text)
+        return re.sub(r'\b(%s)@([A-Za-z0-9-]+)(?:\^(\d))?' % names, field, text)
 
 
 def answers(blocks, needs):
@@ -153,8 +160,9 @@ def main(template, lts, out):
     same = 0
     for need, place, answer in answers(blocks, needs):
         if base(need) == 'same-length':
-            # the four lent buffers, in turn
-            answer = [part for part in answer.strip('\n').split('\n')][same % 4] + '\n'
+            # the four lent buffers, in turn, where one answer is given for all
+            parts = answer.strip('\n').split('\n')
+            answer = parts[same % 4 if len(parts) > 1 else 0] + '\n'
             same += 1
         unfold = 'unfolding remarked stepped takenNext notesNext barsNext heldNext\n' if base(need) == 'loop-again' else ''
         held = ' κs' if 'requires' in need else ''

@@ -1,8 +1,8 @@
 //! Reads incipits from standard input, one to a line, and prints what each reads to:
-//! `printf '%s\n' "xC''C'C/C" 'C=' | cargo run --example lines`
+//! `printf '%s\n' "xC''C'C/C" '@3/4 =12/4C' | cargo run --example lines`
 
 use std::io::{self, BufRead, Write};
-use urthmoli::{Bar, Barline, Note, NoteKind, Reading, read};
+use urthmoli::{Bar, Barline, Duration, Note, NoteKind, Reading, read};
 
 fn main() -> io::Result<()> {
     let mut out = io::stdout().lock();
@@ -42,7 +42,7 @@ fn bar_text(reading: &Reading, bar: &Bar) -> String {
     format!("{left}{}{right}", notes.collect::<String>())
 }
 
-/// The pitches, `-` for a rest, and behind a colon the length.
+/// The pitches, `-` for a rest, and behind a colon the length; `=` for a rest of the whole bar.
 fn note_text(note: &Note) -> String {
     let pitches: Vec<String> = note.pitches.iter().map(ToString::to_string).collect();
     let sign = match note.kind {
@@ -50,15 +50,17 @@ fn note_text(note: &Note) -> String {
         NoteKind::Rest => "-",
         NoteKind::Grace => "q",
         NoteKind::SlashedGrace => "g",
+        NoteKind::WholeBarRest => "=",
     };
+    let length = note.duration.map_or(String::new(), length);
     let dots = ".".repeat(note.dot_count.into());
-    format!("{sign}{}:{}{dots}", pitches.join("^"), length(note))
+    format!("{sign}{}{length}{dots}", pitches.join("^"))
 }
 
-/// 4 for a quarter; 4/1 for a longa, 2/1 for a breve.
-fn length(note: &Note) -> String {
-    match note.duration.as_fraction() {
-        (1, part) => part.to_string(),
-        (wholes, part) => format!("{wholes}/{part}"),
+/// `:4` for a quarter; `:4/1` for a longa, `:2/1` for a breve.
+fn length(duration: Duration) -> String {
+    match duration.as_fraction() {
+        (1, part) => format!(":{part}"),
+        (wholes, part) => format!(":{wholes}/{part}"),
     }
 }

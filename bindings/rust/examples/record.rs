@@ -1,7 +1,7 @@
 //! Reads one record from standard input, bare data or fields one to a line, and prints its bars and
 //! notes, each note with the sign of the data that stored it, and the diagnostics with the part of
 //! the text that each is about:
-//! `printf '%s\n' '@title:Grüße' "@data:é''4CxD/E" | cargo run --example record`
+//! `printf '%s\n' '@title:Grüße' "@data:=2/é''4CxD" | cargo run --example record`
 
 use std::io::{self, Read, Write};
 use urthmoli::{Bar, Diagnostic, Note, Reading, read};
@@ -54,18 +54,21 @@ fn bar_line(bar: &Bar, number: usize) -> String {
     format!("bar {number}{clef}{key}{meter}\n")
 }
 
-/// The kind, the pitches and the length, and which sign stands at the note's place.
+/// The kind, the pitches and the length, if it has one, and which sign stands at the note's place.
 fn note_line(note: &Note, signs: &[char]) -> String {
     let pitches: String = note
         .pitches
         .iter()
         .map(|pitch| format!(" {pitch}"))
         .collect();
+    let length = note
+        .duration
+        .map_or(String::new(), |duration| format!(" {duration:?}"));
     let dots = ".".repeat(note.dot_count.into());
     let at = note.place as usize - 1;
     format!(
-        "  {:?}{pitches} {:?}{dots}, from {} at place {}\n",
-        note.kind, note.duration, signs[at], note.place
+        "  {:?}{pitches}{length}{dots}, from {} at place {}\n",
+        note.kind, signs[at], note.place
     )
 }
 

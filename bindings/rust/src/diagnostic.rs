@@ -6,7 +6,7 @@ use std::fmt;
 use std::ops::Range;
 
 words_enum! {
-    /// What a diagnostic is about, numbered d1 to d19. Several may share one code.
+    /// What a diagnostic is about, numbered d1 to d20. Several may share one code.
     DiagnosticKind, "diagnostic" {
         /// d1: in field form, a line that is no field; the value is the line.
         UnsupportedLine = 1,
@@ -46,6 +46,9 @@ words_enum! {
         RepeatWithoutFigure = 18,
         /// d19: an `i` that doesn't start a bar, or has none before it.
         RepeatInsideBar = 19,
+        /// d20: an `=` with a count outside 1 to [`MAX_WHOLE_BARS`](crate::MAX_WHOLE_BARS), which
+        /// stores nothing; the value is the count's digits.
+        WholeBarCount = 20,
     }
 }
 
@@ -71,6 +74,7 @@ impl DiagnosticKind {
             Self::FigureOverBarline | Self::RepeatWithoutFigure | Self::RepeatInsideBar => {
                 "pae.unsupported-repeat"
             }
+            Self::WholeBarCount => "pae.unsupported-measure-rest",
         }
     }
 
@@ -100,6 +104,7 @@ impl DiagnosticKind {
             Self::FigureOverBarline => "a repeated figure crossing a barline is not imported",
             Self::RepeatWithoutFigure => "'f' needs a preceding !…! figure",
             Self::RepeatInsideBar => "'i' repeats a whole previous bar and must start a bar",
+            Self::WholeBarCount => "multi-measure rest count is out of range",
         }
     }
 }

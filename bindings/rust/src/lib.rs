@@ -13,9 +13,21 @@
 //! What can't be read is refused, with the reason and the place:
 //!
 //! ```
-//! let refusal = urthmoli::read("C=").unwrap_err();
-//! assert_eq!(refusal.number(), Some(6));
-//! assert_eq!(refusal.place(), Some(2));
+//! let refusal = urthmoli::read("Cttttttttt").unwrap_err();
+//! assert_eq!(refusal.number(), Some(10));
+//! assert_eq!(refusal.place(), Some(10));
+//! ```
+//!
+//! A rest of whole bars, `=` with the number of bars, is a record of its own kind in each of them. It
+//! lasts as long as the bar, so it has no written length:
+//!
+//! ```
+//! let reading = urthmoli::read("@3/4 =2/4C")?;
+//! assert_eq!(reading.bars.len(), 3);
+//! assert_eq!(reading.notes[1].kind, urthmoli::NoteKind::WholeBarRest);
+//! assert_eq!(reading.notes[1].duration, None);
+//! assert_eq!(reading.notes[2].duration, Some(urthmoli::Duration::Quarter));
+//! # Ok::<(), urthmoli::Refusal>(())
 //! ```
 //!
 //! Texts are in UTF-8. A place counts the characters (`char`) of the data from 1: those of the last
@@ -52,7 +64,9 @@ pub mod words;
 
 pub use diagnostic::{Diagnostic, DiagnosticKind, Position};
 pub use lent::{Buffers, Lent, read_into};
-pub use limits::{DIAGNOSTIC_CELLS, MAX_MARKS, MAX_NOTES, MAX_PITCHES, MAX_TEXT_BYTES};
+pub use limits::{
+    DIAGNOSTIC_CELLS, MAX_MARKS, MAX_NOTES, MAX_PITCHES, MAX_TEXT_BYTES, MAX_WHOLE_BARS,
+};
 pub use list::List;
 pub use model::{
     Articulation, Bar, Barline, BeamState, Clef, Duration, KeySignature, Note, NoteKind, Pitch,

@@ -17,6 +17,15 @@ words_enum! {
         Grace = 2,
         /// A slashed grace note (`g`).
         SlashedGrace = 3,
+        /// A rest of a whole bar (`=`), whatever the bar's length.
+        WholeBarRest = 4,
+    }
+}
+
+impl NoteKind {
+    /// Whether it is a rest, of a written length or of a whole bar.
+    pub fn is_rest(self) -> bool {
+        matches!(self, Self::Rest | Self::WholeBarRest)
     }
 }
 
@@ -221,12 +230,12 @@ impl fmt::Display for Pitch {
 #[derive(Clone, Copy, Debug, PartialEq, Eq)]
 pub struct Note {
     /// The place in the data of the token that stored it, in characters from 1: a letter, `-`,
-    /// `f` or `i`.
+    /// `=`, `f` or `i`.
     pub place: u32,
     /// What it is.
     pub kind: NoteKind,
-    /// Its written length.
-    pub duration: Duration,
+    /// Its written length; none exactly for a whole-bar rest.
+    pub duration: Option<Duration>,
     /// Its dots, 0 to 3.
     pub dot_count: u8,
     /// Its ties.
@@ -246,10 +255,11 @@ pub struct Note {
 impl Note {
     /// What a note record stands for.
     pub fn from_words(words: &NoteWords) -> Result<Self, UnknownWord> {
+        let kind = NoteKind::from_word(words[note::KIND])?;
         Ok(Self {
             place: number("place", words[note::PLACE])?,
-            kind: NoteKind::from_word(words[note::KIND])?,
-            duration: Duration::from_word(words[note::DURATION])?,
+            kind,
+            duration: duration(kind, words[note::DURATION])?,
             dot_count: number("number of dots", words[note::DOTS])?,
             ties: Ties::from_word(words[note::TIES])?,
             beam: BeamState::from_word(words[note::BEAM])?,
@@ -258,6 +268,13 @@ impl Note {
             pitches: pitches(words)?,
             bar: number("bar number", words[note::BAR])?,
         })
+    }
+}
+
+fn duration(kind: NoteKind, word: i32) -> Result<Option<Duration>, UnknownWord> {
+    match kind {
+        NoteKind::WholeBarRest => Ok(None),
+        _ => Duration::from_word(word).map(Some),
     }
 }
 

@@ -61,9 +61,10 @@ struct Room {
 }
 
 impl Room {
-    /// As many records as the text stores without repeats; those can only be found by reading.
+    /// As many records as the text stores without repeats and counts; those can only be found by
+    /// reading.
     fn for_text(text: &[u8]) -> Self {
-        let notes = count(text, |byte| matches!(byte, b'A'..=b'G' | b'-'));
+        let notes = count(text, |byte| matches!(byte, b'A'..=b'G' | b'-' | b'='));
         let bars = count(text, |byte| byte == b'/') + 1;
         let figure = if text.contains(&b'!') { notes } else { 0 };
         Self {
@@ -140,6 +141,12 @@ mod tests {
         let reading = read_growing(LONG.as_bytes(), NONE).unwrap();
         assert_eq!((reading.notes.len(), reading.bars.len()), (34, 11));
         assert_eq!(reading, read(LONG).unwrap());
+    }
+
+    #[test]
+    fn rests_of_whole_bars_grow_notes_and_bars() {
+        let reading = read("!C!=1000f").unwrap();
+        assert_eq!((reading.notes.len(), reading.bars.len()), (1_002, 1_000));
     }
 
     #[test]

@@ -29,11 +29,6 @@ pub enum Refusal {
     Blank,
     /// 5: the text is in field form and has no data field.
     NoData,
-    /// 6: a whole-bar rest, `=`.
-    MeasureRest {
-        /// The place of the `=`.
-        place: u32,
-    },
     /// 7: the notes would pass [`MAX_NOTES`].
     TooManyNotes {
         /// The place of the token that would store them.
@@ -61,7 +56,8 @@ pub enum Refusal {
     },
     /// 12: the bars would pass the lent records; never from [`read`](crate::read).
     BarRecords {
-        /// The place of the barline; at the data's end, its length in characters plus 1.
+        /// The place of the barline, or of the `=` that has it; at the data's end, its length in
+        /// characters plus 1.
         place: u32,
     },
     /// 13: the data store no note and no rest.
@@ -82,7 +78,6 @@ impl Refusal {
             },
             4 => Self::Blank,
             5 => Self::NoData,
-            6 => Self::MeasureRest { place },
             7 => Self::TooManyNotes { place },
             8 => Self::NoteRecords { place },
             9 => Self::TooManyPitches { place },
@@ -94,7 +89,7 @@ impl Refusal {
         }
     }
 
-    /// The refusal's number, 1 to 13.
+    /// The refusal's number, 1 to 13; 6 isn't given.
     pub fn number(&self) -> Option<u32> {
         Some(match self {
             Self::TooLarge { .. } => 1,
@@ -102,7 +97,6 @@ impl Refusal {
             Self::MalformedUtf8 { .. } => 3,
             Self::Blank => 4,
             Self::NoData => 5,
-            Self::MeasureRest { .. } => 6,
             Self::TooManyNotes { .. } => 7,
             Self::NoteRecords { .. } => 8,
             Self::TooManyPitches { .. } => 9,
@@ -117,8 +111,7 @@ impl Refusal {
     /// The place in the data, in characters from 1, where the refusal has one.
     pub fn place(&self) -> Option<u32> {
         match *self {
-            Self::MeasureRest { place }
-            | Self::TooManyNotes { place }
+            Self::TooManyNotes { place }
             | Self::NoteRecords { place }
             | Self::TooManyPitches { place }
             | Self::TooManyMarks { place }
@@ -153,7 +146,6 @@ impl Refusal {
             }
             Self::Blank => f.write_str("the text is blank"),
             Self::NoData => f.write_str("the text has fields, but none is @data:"),
-            Self::MeasureRest { .. } => f.write_str("whole-bar rests (=) aren't read"),
             Self::TooManyNotes { .. } => write!(f, "the notes pass {MAX_NOTES}"),
             Self::NoteRecords { .. } => f.write_str("the notes pass the lent note records"),
             Self::TooManyPitches { .. } => write!(f, "the chord passes {MAX_PITCHES} pitches"),

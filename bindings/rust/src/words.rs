@@ -56,7 +56,7 @@ pub mod note {
     pub const PLACE: usize = 0;
     /// The kind, see [`NoteKind`](crate::NoteKind).
     pub const KIND: usize = 1;
-    /// The duration, see [`Duration`](crate::Duration).
+    /// The duration, see [`Duration`](crate::Duration); 0 for a whole-bar rest, which has none.
     pub const DURATION: usize = 2;
     /// The number of dots, 0 to 3.
     pub const DOTS: usize = 3;

@@ -3,7 +3,7 @@
 use urthmoli::{DIAGNOSTIC_CELLS, Diagnostic, DiagnosticKind, read};
 
 /// For d1 and on: the smallest text that gives it, its code, location and value.
-const EACH: [(&str, &str, &str, &str); 19] = [
+const EACH: [(&str, &str, &str, &str); 20] = [
     ("x\n@data:C", "line", "/line/1", "x"),
     ("@x:\n@data:C", "field", "/line/1/field/x", ""),
     ("C%", "mid-measure-change", "/data/2", ""),
@@ -23,6 +23,7 @@ const EACH: [(&str, &str, &str, &str); 19] = [
     ("C!/!", "repeat", "/data/4", "!"),
     ("Cf", "repeat", "/data/2", "f"),
     ("Ci", "repeat", "/data/2", "i"),
+    ("C=0", "measure-rest", "/data/2", "0"),
 ];
 
 fn diagnostics(text: &str) -> Vec<Diagnostic> {

@@ -77,7 +77,7 @@ fn accepted_texts_leave_the_rest_clear() {
 fn refused_texts_leave_all_clear() {
     let long = " ".repeat(urthmoli::MAX_TEXT_BYTES + 1);
     let texts = [
-        "", "é", "\u{a0}", "@c:C", "C=", "CDEFG", "!CDE!", "C/D/E", "Ct)x=", "x",
+        "", "é", "\u{a0}", "@c:C", "=3", "CDEFG", "!CDE!", "C/D/E", "Ct)x=4", "x",
     ];
     let texts = texts.into_iter().chain([long.as_str()]);
     for text in texts.map(str::as_bytes).chain([&b"C)/D\xc3"[..]]) {

@@ -28,14 +28,14 @@ fn accidentals_hold_for_step_octave_and_bar() {
 #[test]
 fn patterns_step_past_graces() {
     let lengths = each("8.6 C D E", |note| (note.duration, note.dot_count));
-    let dotted = (Duration::Eighth, 1);
-    assert_eq!(lengths, [dotted, (Duration::Sixteenth, 0), dotted]);
+    let dotted = (Some(Duration::Eighth), 1);
+    assert_eq!(lengths, [dotted, (Some(Duration::Sixteenth), 0), dotted]);
 
     let lengths = each("86CqDE", |note| (note.kind, note.duration));
     let expected = [
-        (NoteKind::Note, Duration::Eighth),
-        (NoteKind::Grace, Duration::Sixteenth),
-        (NoteKind::Note, Duration::Sixteenth),
+        (NoteKind::Note, Some(Duration::Eighth)),
+        (NoteKind::Grace, Some(Duration::Sixteenth)),
+        (NoteKind::Note, Some(Duration::Sixteenth)),
     ];
     assert_eq!(lengths, expected);
 }
@@ -90,7 +90,13 @@ fn tuplets_have_three_notes_or_more() {
 }
 
 #[test]
-fn refused_lines() {
+fn a_refused_line() {
     assert_eq!(read("@c:C"), Err(Refusal::NoData));
-    assert_eq!(read("C="), Err(Refusal::MeasureRest { place: 2 }));
+}
+
+#[test]
+fn a_whole_bar_rest_stands_behind_a_note() {
+    let kinds = each("C=", |note| (note.kind, note.place, note.bar));
+    let expected = [(NoteKind::Note, 1, 1), (NoteKind::WholeBarRest, 2, 1)];
+    assert_eq!(kinds, expected);
 }

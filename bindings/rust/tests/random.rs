@@ -62,8 +62,14 @@ fn is_whole(reading: &Reading, text: &[u8]) {
         next += bar.note_count;
         for note in reading.notes_of(bar) {
             assert_eq!(note.bar, number);
-            assert_eq!(note.kind == NoteKind::Rest, note.pitches.is_empty());
-            assert!(matches!(sign(note.place), 'A'..='G' | '-' | 'f' | 'i'));
+            assert_eq!(note.kind.is_rest(), note.pitches.is_empty());
+            let whole_bar = note.kind == NoteKind::WholeBarRest;
+            assert_eq!(whole_bar, note.duration.is_none());
+            assert!(!whole_bar || note.dot_count == 0);
+            assert!(matches!(
+                sign(note.place),
+                'A'..='G' | '-' | '=' | 'f' | 'i'
+            ));
             for pitch in &note.pitches {
                 assert_eq!(sign(pitch.place).to_string(), format!("{:?}", pitch.step));
             }

@@ -2,7 +2,8 @@
 
 use urthmoli::words::{BAR_WORDS, DiagnosticCell, NOTE_WORDS};
 use urthmoli::{
-    Buffers, DIAGNOSTIC_CELLS, MAX_MARKS, MAX_PITCHES, MAX_TEXT_BYTES, Refusal, read, read_into,
+    Buffers, DIAGNOSTIC_CELLS, MAX_MARKS, MAX_NOTES, MAX_PITCHES, MAX_TEXT_BYTES, MAX_WHOLE_BARS,
+    Refusal, read, read_into,
 };
 
 /// The refusal and its message from `read`.
@@ -85,14 +86,6 @@ fn texts_without_notes() {
     assert_eq!(refused("x"), (Refusal::NoNotes, message));
 }
 
-#[test]
-fn tokens_that_are_refused() {
-    let message = "refused 6 at data place 2: whole-bar rests (=) aren't read".to_string();
-    assert_eq!(refused("C="), (Refusal::MeasureRest { place: 2 }, message));
-    let (refusal, _) = refused("@clef:G-2\n@data: C=");
-    assert_eq!(refusal, Refusal::MeasureRest { place: 2 });
-}
-
 /// Figures of figures: 54,612 notes.
 const FIGURES: &str = "!CCCC!!ffff!!ffff!!ffff!!ffff!!ffff!!ffff!ff";
 
@@ -102,6 +95,11 @@ fn too_many_notes() {
     let message = "refused 7 at data place 46: the notes pass 100000".to_string();
     let expected = (Refusal::TooManyNotes { place: 46 }, message);
     assert_eq!(refused(format!("{FIGURES}/i")), expected);
+
+    let rests = format!("={MAX_WHOLE_BARS}/").repeat(MAX_NOTES / MAX_WHOLE_BARS);
+    assert_eq!(read(&rests).unwrap().notes.len(), MAX_NOTES);
+    let (refusal, _) = refused(format!("{rests}="));
+    assert_eq!(refusal, Refusal::TooManyNotes { place: 601 });
 }
 
 #[test]
@@ -152,5 +150,21 @@ fn too_little_lent() {
     assert_eq!(
         refused_with("éC", [1, 0, 0, cells]),
         "refused 12 at data place 3: the bars pass the lent bar records"
+    );
+}
+
+/// The records and barlines of a rest of whole bars are checked in turn, all at its place.
+#[test]
+fn too_little_lent_for_whole_bars() {
+    let cells = DIAGNOSTIC_CELLS;
+    let notes = "refused 8 at data place 3: the notes pass the lent note records";
+    let bars = "refused 12 at data place 3: the bars pass the lent bar records";
+    assert_eq!(refused_with("é/=3", [0, 3, 0, cells]), notes);
+    assert_eq!(refused_with("é/=3", [1, 0, 0, cells]), bars);
+    assert_eq!(refused_with("é/=3", [1, 1, 0, cells]), notes);
+    assert_eq!(refused_with("é/=3", [2, 1, 0, cells]), bars);
+    assert_eq!(
+        refused_with("é/=3", [3, 2, 0, cells]),
+        "refused 12 at data place 5: the bars pass the lent bar records"
     );
 }

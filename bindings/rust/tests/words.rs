@@ -98,7 +98,7 @@ fn notes_of_a_foreign_bar() {
 #[test]
 fn durations() {
     let notes = read("0C9C1C2C4C8C6C3C5C7C").unwrap().notes;
-    let durations: Vec<_> = notes.iter().map(|note| note.duration).collect();
+    let durations: Vec<_> = notes.iter().filter_map(|note| note.duration).collect();
     let expected = [
         Duration::Longa,
         Duration::Breve,

@@ -1,4 +1,4 @@
-// Characters of a text in UTF-8: whether it is well-formed; the size of a character, whether it is blank; the last one's start.
+// Characters of a text in UTF-8: whether it is well-formed; the size of a character, whether it is blank; counting and trimming them.
 ghost use mathlib.Core.Path.{_≡_};
 ghost use Prim.Native.Nat.{_+_, _<_, _≤_, _%_};
 ghost use mathlib.Core.Bool.{cond, not};

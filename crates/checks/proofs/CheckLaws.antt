@@ -72,7 +72,7 @@ module _ {size : ℕ} (st : Pae) {s : State} {l : List ℤ} {joined : Bool} (roo
   abbrev atLetter : ℕ → Bool → Option ℕ
   atLetter step joins =
       let added = length {A = Note} (cond (not joins) (rules.openedNote s 0 step ∷ []) []) in
-      firstFailing ((6, false) ∷ (7, passes noteLimit added s) ∷ (8, passes (room .notes) added s) ∷ (9, joins && isFull (s .openBar)) ∷ [])
+      firstFailing ((7, passes noteLimit added s) ∷ (8, passes (room .notes) added s) ∷ (9, joins && isFull (s .openBar)) ∷ [])
 
   letter-agrees : (step : ℕ) → tokenRefusal (lentIn room diagnostics) (token.letter step) s ≡ numberIn (letterCheck joined (st .counts) l (room .notes))
   letter-agrees step = ap (λ (j : Bool). atLetter step j) (sym joining) ∙ go joined joining
@@ -143,6 +143,8 @@ module _ {size : ℕ} (st : Pae) {s : State} {l : List ℤ} {joined : Bool} (roo
   check-agrees b value (t.Letter step) = letter-agrees step
   check-agrees b value t.Chord = refl
   check-agrees b value t.Rest = storing-agrees 1 1 (room .notes) refl
+  check-agrees b value (t.WholeBars count) = storing-agrees 1 1 (room .notes) refl
+  check-agrees b value t.BadCount = refl
   check-agrees b value (t.Barline barline) = rw (bars-agree room diagnostics s held) (number-one 12 refl (hasContent (st .counts) && leb (room .bars) (st .counts .bars)))
   check-agrees b value (t.Grace slashed) = refl
   check-agrees b value (t.GraceGroup begins) = refl
@@ -150,7 +152,6 @@ module _ {size : ℕ} (st : Pae) {s : State} {l : List ℤ} {joined : Bool} (roo
   check-agrees b value (t.Marking marking) = marking-agrees value marking
   check-agrees b value t.Blank = refl
   check-agrees b value t.Colon = refl
-  check-agrees b value t.MeasureRest = refl
   check-agrees b value t.Unknown = refl
 
 -- ---- where no check fails
@@ -163,7 +164,7 @@ passed n h false e = refl
 abbrev pub Fit : ℕ → ℕ → ℕ → Type 0
 Fit size n k = ((n + k) * noteSize ≤ size) × (n + k ≤ noteLimit)
 
-storing-ready : (size n k lent : ℕ) → n * noteSize ≤ size → n ≤ noteLimit → lent * noteSize ≤ size → storing n k lent ≡ 0 → Fit size n k
+pub storing-ready : (size n k lent : ℕ) → n * noteSize ≤ size → n ≤ noteLimit → lent * noteSize ≤ size → storing n k lent ≡ 0 → Fit size n k
 storing-ready size n k lent fits capped lends e = go (ltb 0 k) refl e
   where
     both : (a b : Bool) → cond a 7 (failing b 8) ≡ 0 → (a ≡ false) × (b ≡ false)

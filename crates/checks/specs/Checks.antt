@@ -110,6 +110,8 @@ checkOf token st joined cells room = elim token [
   | t.Letter step ↦ letterCheck joined (st .counts) cells (room .notes)
   | t.Chord ↦ 0
   | t.Rest ↦ storing (st .counts .notes) 1 (room .notes)
+  | t.WholeBars count ↦ storing (st .counts .notes) 1 (room .notes)
+  | t.BadCount ↦ 0
   | t.Barline barline ↦ barCheck (st .counts) (room .bars)
   | t.Grace slashed ↦ 0
   | t.GraceGroup begins ↦ 0
@@ -117,6 +119,5 @@ checkOf token st joined cells room = elim token [
   | t.Marking marking ↦ markingCheck marking st cells
   | t.Blank ↦ 0
   | t.Colon ↦ 0
-  | t.MeasureRest ↦ 6
   | t.Unknown ↦ 0
 ]

@@ -139,7 +139,7 @@ apart N (j ∷ ks) b h = more (apart (N × (b ≡ j → ⊥)) ks b h)
 
 -- the first bytes that do not go by their class
 abbrev ownBytes : List ℕ
-ownBytes = bytes "%$@',xbn^-/:gqr!fi{}(;)+t= " ++ 10 ∷ []
+ownBytes = bytes "%$@',xbn^-=/:gqr!fi{}(;)+t " ++ 10 ∷ []
 
 pub by-class : (b : ℕ) (value : List ℕ) → Apart (Unit {0}) ownBytes b → byClass b value ≡ tokenOf b value
 unfolding tokenOf

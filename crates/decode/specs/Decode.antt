@@ -1,9 +1,11 @@
 -- What the program's tokens are in document 01's rules. Assumes nothing.
-use Prim.Native.Nat.{ℕ, _<_}
+use Prim.Native.Nat.{ℕ, _<_, _≤_}
 use Prim.Native.Char.{code}
 use mathlib.Core.Path.{_≡_}
+use mathlib.Core.Option.{none, some}
 use mathlib.Core.List.{List, _∷_}
 use lib.IntN.{pos}
+use Rattle.rules.specs.Limits.{wholeBarLimit}
 use Rattle.rules.specs.Text.{if_then_else_, isDigit, isNoteLetter}
 use Rattle.rules.specs.Characters.{isBlank}
 use Rattle.rules.specs.Values.{clefOf, keyOf, meterOf, countOf, patternOf, stepOf}
@@ -45,6 +47,8 @@ tokenIn b value (t.Accidental alter) = rules.accidental alter
 tokenIn b value (t.Letter step) = rules.letter step
 tokenIn b value t.Chord = rules.chord
 tokenIn b value t.Rest = rules.rest
+tokenIn b value (t.WholeBars count) = rules.other (rules.wholeBars (some count))
+tokenIn b value t.BadCount = rules.other (rules.wholeBars none)
 tokenIn b value (t.Barline barline) = barlineIn barline
 tokenIn b value (t.Grace slashed) = rules.grace slashed
 tokenIn b value (t.GraceGroup begins) = rules.graceGroup begins
@@ -52,7 +56,6 @@ tokenIn b value (t.Figure figure) = rules.figure (figureIn figure)
 tokenIn b value (t.Marking marking) = rules.marking (markingIn value marking)
 tokenIn b value t.Blank = rules.other rules.blank
 tokenIn b value t.Colon = rules.other rules.colon
-tokenIn b value t.MeasureRest = rules.other rules.wholeBarRest
 tokenIn b value t.Unknown = rules.other rules.unknown
 
 -- a token whose first byte has no rule of its own goes by the class of that byte, or of its character
@@ -68,7 +71,7 @@ abbrev pub FineOctave : Octave → Type 0
 FineOctave (o.Set octave) = octave < 10
 FineOctave o.OutOfRange = Unit {0}
 
--- an octave is one of ten, no alteration is 3 (which stands for none), a step is one of seven, no digit token begins with a dot
+-- an octave is one of ten, no alteration is 3 (which stands for none), a step is one of seven, an `=` counts 1 to 1,000, no digit token begins with a dot
 abbrev pub Fine : ℕ → Token → Type 0
 Fine b t.Clef = Unit {0}
 Fine b t.Key = Unit {0}
@@ -79,6 +82,8 @@ Fine b (t.Accidental alter) = alter ≡ pos 3 → ⊥
 Fine b (t.Letter step) = step < 7
 Fine b t.Chord = Unit {0}
 Fine b t.Rest = Unit {0}
+Fine b (t.WholeBars count) = (1 ≤ count) × (count ≤ wholeBarLimit)
+Fine b t.BadCount = Unit {0}
 Fine b (t.Barline barline) = Unit {0}
 Fine b (t.Grace slashed) = Unit {0}
 Fine b (t.GraceGroup begins) = Unit {0}
@@ -86,7 +91,6 @@ Fine b (t.Figure figure) = Unit {0}
 Fine b (t.Marking marking) = Unit {0}
 Fine b t.Blank = Unit {0}
 Fine b t.Colon = Unit {0}
-Fine b t.MeasureRest = Unit {0}
 Fine b t.Unknown = Unit {0}
 
 -- what the token is that has the first byte b and then the bytes `value`

@@ -47,6 +47,10 @@ pub enum Token {
     Letter(u8),
     Chord,
     Rest,
+    // `=` with its count
+    WholeBars(u16),
+    // `=` with a bad one
+    BadCount,
     Barline(Barline),
     // `g` (true, slashed) or `q`
     Grace(bool),
@@ -56,7 +60,6 @@ pub enum Token {
     Marking(Marking),
     Blank,
     Colon,
-    MeasureRest,
     Unknown,
 }
 
@@ -80,6 +83,18 @@ fn grace(size: usize) -> Token
         return Token::Grace(false);
     }
     Token::GraceGroup(true)
+}
+
+// `=` (61), of so many bars.
+fn whole_bars(token: &[u8]) -> Token
+    requires { ⌜ 0 < length (now token) ⌝ }
+    ensures { λ r. ⌜ ((value : List ℕ) → now (token .entry) ≡ 61 ∷ value → Decoded 61 value r) ⌝ }
+{
+    let count = text::whole_bars(&token[1..]);
+    if count == 0 {
+        return Token::BadCount;
+    }
+    Token::WholeBars(count)
 }
 
 // A token whose first byte is none of those in `decode` goes by the class of that byte, or of its character.
@@ -123,6 +138,7 @@ pub fn decode(token: &[u8]) -> Token
         b'n' => Token::Accidental(0),
         b'^' => Token::Chord,
         b'-' => Token::Rest,
+        b'=' => whole_bars(token),
         b'/' => Token::Barline(slashes(size)),
         b':' => colon(size),
         b'g' => Token::Grace(true),
@@ -138,7 +154,6 @@ pub fn decode(token: &[u8]) -> Token
         b')' => Token::Marking(Marking::GroupClose),
         b'+' => Token::Marking(Marking::Tie),
         b't' => Token::Marking(Marking::Trill),
-        b'=' => Token::MeasureRest,
         b' ' => Token::Blank,
         b'\n' => Token::Blank,
         _ => by_class(token),

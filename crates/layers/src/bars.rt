@@ -1,5 +1,9 @@
-// The fourth layer: the bars.
+// The fourth layer: the bars; those of whole-bar rests that follow each other alike share a row.
+ghost use Prim.Native.Nat.{_<_};
+ghost use Rattle.rules.specs.Limits.{barSize};
+use super::cells::WHOLE_BAR_REST;
 use super::cells::bar_word;
+use super::cells::note_word;
 use super::row::ROW;
 use super::row::end_row;
 use super::row::number_in;
@@ -8,11 +12,13 @@ use super::row::say;
 use super::row::say_heading;
 use super::row::say_number;
 use super::row::say_row;
+use super::row::show_same;
 use super::terms::say_clef;
 use super::terms::say_fifths;
 use super::terms::say_meter;
 use super::terms::say_side;
 use records::cells::natural;
+use records::note::KIND;
 
 // Where a bar's words stand.
 const FIRST: usize = 0;
@@ -101,13 +107,60 @@ fn show_bar(bars: &[i32], number: u32) {
     end_row(&mut row, n);
 }
 
+// Whether a bar has the same word as the one before it.
+fn same_word(bars: &[i32], number: u32, at: usize) -> bool
+    requires { ⌜ at < barSize ⌝ }
+{
+    if number == 0 {
+        return false;
+    }
+    bar_word(bars, number, at) == bar_word(bars, number - 1, at)
+}
+
+// Whether all that a bar has is a whole-bar rest.
+fn is_rest(bars: &[i32], notes: &[i32], number: u32) -> bool {
+    let first = natural(bar_word(bars, number, FIRST));
+    (bar_word(bars, number, COUNT) == 1) & (note_word(notes, first, KIND) == WHOLE_BAR_REST)
+}
+
+// Whether a bar is one of a whole-bar rest, as is the one before it, and nothing else is different.
+fn is_same(bars: &[i32], notes: &[i32], number: u32) -> bool {
+    if number == 0 {
+        return false;
+    }
+    is_rest(bars, notes, number)
+        & is_rest(bars, notes, number - 1)
+        & same_word(bars, number, CLEF)
+        & same_word(bars, number, KEYED)
+        & same_word(bars, number, FIFTHS)
+        & same_word(bars, number, NUMERATOR)
+        & same_word(bars, number, DENOMINATOR)
+        & same_word(bars, number, SYMBOL)
+        & same_word(bars, number, LEFT)
+        & same_word(bars, number, RIGHT)
+}
+
+// The first bar from `from` on, of so many, that is not like the one before it.
+fn same_end(bars: &[i32], notes: &[i32], from: u32, count: u32) -> u32 {
+    let mut number = from;
+    while number < count {
+        if !is_same(bars, notes, number) {
+            return number;
+        }
+        number += 1;
+    }
+    number
+}
+
 // The fourth layer.
-pub(crate) fn show_bars(bars: &[i32], count: u32) {
+pub(crate) fn show_bars(bars: &[i32], count: u32, notes: &[i32]) {
     say_heading(b"4. The bars (-: nothing set here)");
     say_row(b"   bar  notes       clef         key       meter      left          right");
     let mut number: u32 = 0;
     while number < count {
         show_bar(bars, number);
-        number += 1;
+        let next = number + 1;
+        let end = same_end(bars, notes, next, count);
+        number = show_same(next, end, b": the same, a whole-bar rest each");
     }
 }

@@ -9,6 +9,9 @@ use records::cells::PITCH;
 use records::cells::natural;
 use show::word_at;
 
+// The kind of a whole-bar rest.
+pub(crate) const WHOLE_BAR_REST: u32 = 4;
+
 // Where a pitch's words stand.
 pub(crate) const PITCH_STEP: usize = 1;
 

@@ -62,6 +62,7 @@ pub(crate) enum Sought {
     // a letter of this step
     Step(u8),
     Chord,
+    // a barline, or an `=` of 2 or more bars: its last barline stands before its last record
     Barline,
     Pattern,
     Key,
@@ -109,6 +110,7 @@ fn is_chord(token: Token) -> bool {
 fn is_barline(token: Token) -> bool {
     match token {
         Token::Barline(_) => true,
+        Token::WholeBars(count) => 1 < count,
         _ => false,
     }
 }
@@ -167,7 +169,7 @@ fn is_sought(sought: Sought, token: Token, storing: bool) -> bool {
     }
 }
 
-// The latest mark up to `from` that is sought, since the last one that stops the search.
+// The latest mark up to `from` that is sought, since the last one that stops the search. A mark may be both: it is found.
 pub(crate) fn latest(
     data: &[u8],
     ends: &[usize],
@@ -182,11 +184,11 @@ pub(crate) fn latest(
     while 0 < k {
         let token = token_at(data, ends, k);
         let storing = 0 < stored_at(stored, k);
-        if is_sought(stop, token, storing) {
-            return 0;
-        }
         if is_sought(sought, token, storing) {
             return k;
+        }
+        if is_sought(stop, token, storing) {
+            return 0;
         }
         k -= 1;
     }

@@ -66,7 +66,7 @@ fn show_layers(
     let mut stored = [0u32; MARKS];
     enter_stored(&mut stored, ends, count, notes, reading.notes);
     show_notes(notes, reading.notes, data, ends, count);
-    show_bars(bars, reading.bars);
+    show_bars(bars, reading.bars, notes);
     let alters = fields.attributes.alters;
     let key = KeyField {
         alters,

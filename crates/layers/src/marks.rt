@@ -16,6 +16,7 @@ use super::row::say_row;
 use super::terms::letter_of;
 use super::terms::say_alteration;
 use super::terms::say_clef;
+use super::terms::say_counted;
 use super::terms::say_fifths;
 use super::terms::say_meter;
 use super::terms::say_sign;
@@ -382,6 +383,11 @@ fn say_letter_mark(row: &mut [u8; ROW], n: usize, step: u8) -> usize {
     put(row, m, letter_of(step as u32))
 }
 
+fn say_whole_bars_mark(row: &mut [u8; ROW], n: usize, count: u16) -> usize {
+    let m = say(row, n, b"whole-bar rest, ");
+    say_counted(row, m, count as u32, b"bar")
+}
+
 // What the mark between two offsets is; `value` is what stands behind its first byte. `inside`: a figure is open.
 fn say_meaning(
     row: &mut [u8; ROW],
@@ -403,6 +409,8 @@ fn say_meaning(
         Token::Letter(step) => say_letter_mark(row, n, step),
         Token::Chord => say(row, n, b"chord, the next letter joins the last note"),
         Token::Rest => say(row, n, b"rest"),
+        Token::WholeBars(count) => say_whole_bars_mark(row, n, count),
+        Token::BadCount => say(row, n, b"whole-bar rest, its count is not 1 to 1,000"),
         Token::Barline(b) => say_barline_mark(row, n, b),
         Token::Grace(g) => say_grace_mark(row, n, g),
         Token::GraceGroup(g) => say_grace_group_mark(row, n, g),
@@ -410,7 +418,6 @@ fn say_meaning(
         Token::Marking(m) => say_marking_mark(row, n, m, value),
         Token::Blank => say(row, n, b"blank"),
         Token::Colon => say(row, n, b"no barline alone"),
-        Token::MeasureRest => say(row, n, b"rest of whole bars"),
         Token::Unknown => say(row, n, b"no rule for it"),
     }
 }

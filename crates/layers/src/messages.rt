@@ -26,7 +26,7 @@ const START: usize = 4;
 
 const END: usize = 5;
 
-// What diagnostics 10 to 19 mean.
+// What diagnostics 10 to 20 mean.
 fn say_later(row: &mut [u8; ROW], n: usize, number: u32) -> usize {
     match number {
         10 => say(
@@ -46,7 +46,12 @@ fn say_later(row: &mut [u8; ROW], n: usize, number: u32) -> usize {
         16 => say(row, n, b"no note stands before it to be tied"),
         17 => say(row, n, b"the bar is now shorter than at the first !"),
         18 => say(row, n, b"there is no figure to repeat"),
-        _ => say(row, n, b"only an empty bar behind another can repeat it"),
+        19 => say(row, n, b"only an empty bar behind another can repeat it"),
+        _ => say(
+            row,
+            n,
+            b"the count of bars must be 1 to 1,000; no rest is stored",
+        ),
     }
 }
 
@@ -82,7 +87,6 @@ fn say_reason(row: &mut [u8; ROW], n: usize, number: u32) -> usize {
         3 => say(row, n, b"the text is not well-formed UTF-8"),
         4 => say(row, n, b"the text is blank"),
         5 => say(row, n, b"there are fields and none of them is @data"),
-        6 => say(row, n, b"rests of whole bars (=) are not read"),
         7 => say(row, n, b"more than 100,000 notes"),
         8 => say(row, n, b"more notes than the 4,000 that this program keeps"),
         9 => say(row, n, b"a ninth pitch in one chord"),

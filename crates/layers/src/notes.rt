@@ -1,7 +1,10 @@
-// The third layer: the notes, a row for each record.
+// The third layer: the notes, a row for each record; whole-bar rests that follow each other alike share one.
+ghost use Prim.Native.Nat.{_<_};
+ghost use Rattle.rules.specs.Limits.{noteSize};
 use super::cells::PITCH_ALTER;
 use super::cells::PITCH_OCTAVE;
 use super::cells::PITCH_STEP;
+use super::cells::WHOLE_BAR_REST;
 use super::cells::note_word;
 use super::cells::pitch_word;
 use super::marks::mark_at;
@@ -15,6 +18,7 @@ use super::row::say;
 use super::row::say_heading;
 use super::row::say_number;
 use super::row::say_row;
+use super::row::show_same;
 use super::terms::say_kind;
 use super::terms::say_length;
 use super::terms::say_pitch;
@@ -50,6 +54,19 @@ fn say_pitches(row: &mut [u8; ROW], n: usize, notes: &[i32], number: u32) -> usi
         i += 1;
     }
     m
+}
+
+// The length; a whole-bar rest has none.
+fn say_note_length(row: &mut [u8; ROW], n: usize, notes: &[i32], number: u32) -> usize {
+    if note_word(notes, number, KIND) == WHOLE_BAR_REST {
+        return n;
+    }
+    say_length(
+        row,
+        n,
+        note_word(notes, number, DURATION),
+        note_word(notes, number, DOTS),
+    )
 }
 
 // ---- notations, separated by commas behind the first
@@ -145,17 +162,46 @@ fn show_note(notes: &[i32], number: u32, first: u8) {
     n = say(&mut row, n, b"  ");
     n = say_kind(&mut row, n, note_word(notes, number, KIND));
     n = pad(&mut row, n, 25);
-    n = say_length(
-        &mut row,
-        n,
-        note_word(notes, number, DURATION),
-        note_word(notes, number, DOTS),
-    );
+    n = say_note_length(&mut row, n, notes, number);
     n = pad(&mut row, n, 37);
     n = say_pitches(&mut row, n, notes, number);
     n = pad(&mut row, n, 53);
     n = say_notations(&mut row, n, notes, number, first);
     end_row(&mut row, n);
+}
+
+// Whether a record has the same word as the one before it.
+fn same_word(notes: &[i32], number: u32, at: usize) -> bool
+    requires { ⌜ at < noteSize ⌝ }
+{
+    if number == 0 {
+        return false;
+    }
+    note_word(notes, number, at) == note_word(notes, number - 1, at)
+}
+
+// Whether a record is a whole-bar rest like the one before it, bars apart.
+fn is_same(notes: &[i32], number: u32) -> bool {
+    (note_word(notes, number, KIND) == WHOLE_BAR_REST)
+        & same_word(notes, number, KIND)
+        & same_word(notes, number, PLACE)
+        & same_word(notes, number, TIES)
+        & same_word(notes, number, BEAM)
+        & same_word(notes, number, ACTUAL)
+        & same_word(notes, number, MARK_COUNT)
+        & same_word(notes, number, MARKS)
+}
+
+// The first record from `from` on, of so many, that is not like the one before it.
+fn same_end(notes: &[i32], from: u32, count: u32) -> u32 {
+    let mut number = from;
+    while number < count {
+        if !is_same(notes, number) {
+            return number;
+        }
+        number += 1;
+    }
+    number
 }
 
 // The third layer. Records and marks stand in the order of their places.
@@ -167,6 +213,8 @@ pub(crate) fn show_notes(notes: &[i32], count: u32, data: &[u8], ends: &[usize],
     while number < count {
         k = mark_at(ends, k, marks, note_word(notes, number, PLACE) as usize);
         show_note(notes, number, byte_at(data, start_of(ends, k)));
-        number += 1;
+        let next = number + 1;
+        let end = same_end(notes, next, count);
+        number = show_same(next, end, b": the same");
     }
 }

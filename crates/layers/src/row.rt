@@ -1,6 +1,6 @@
 // A row of the output: bytes in a lent array, and how many stand there. It is written when it ends, and when it is full, so nothing is cut.
 // A column is a character.
-ghost use Prim.Native.Nat.{_<_};
+ghost use Prim.Native.Nat.{_<_, _≤_};
 ghost use lib.ListN.{length};
 use super::characters::character_end;
 use character::characters_in;
@@ -134,6 +134,23 @@ pub(crate) fn say_row(words: &[u8]) {
     let mut row = [0u8; ROW];
     let n = say(&mut row, 0, words);
     end_row(&mut row, n);
+}
+
+// A row for the numbers from `from` on and below `end`, where there are two or more; the number of the next row. Numbers count from 0 and
+// are shown from 1.
+pub(crate) fn show_same(from: u32, end: u32, words: &[u8]) -> u32
+    ensures { λ r. ⌜ from ≤ r ⌝ }
+{
+    if (end as u64) < from as u64 + 2 {
+        return from;
+    }
+    let mut row = [0u8; ROW];
+    let mut n = number_in(&mut row, 0, from as u64 + 1, 6);
+    n = say(&mut row, n, b" to ");
+    n = say_number(&mut row, n, end as u64);
+    n = say(&mut row, n, words);
+    end_row(&mut row, n);
+    end
 }
 
 // A layer's heading, between empty rows.

@@ -89,7 +89,8 @@ pub(crate) fn say_kind(row: &mut [u8; ROW], n: usize, kind: u32) -> usize {
         0 => say(row, n, b"note"),
         1 => say(row, n, b"rest"),
         2 => say(row, n, b"grace"),
-        _ => say(row, n, b"slashed"),
+        3 => say(row, n, b"slashed"),
+        _ => say(row, n, b"whole-bar rest"),
     }
 }
 

@@ -82,6 +82,9 @@ impl Pae {
     // of `;` and in a meter
     pub const MAX_COUNT: u16 = 255;
 
+    // of `=`
+    pub const MAX_WHOLE_BARS: u16 = 1000;
+
     pub const MAX_OCTAVE: usize = 9;
 
     // no accidental waits

@@ -25,7 +25,7 @@ use Rattle.limits.specs.declared.Pae.{Pae}
 use Rattle.decode.specs.declared.Marking.the-variants as m
 use Rattle.decode.specs.declared.Token.{Token}
 use Rattle.decode.specs.declared.Token.the-variants as t
-use Rattle.decode.specs.Decode.{Decoded}
+use Rattle.decode.specs.Decode.{tokenIn, Decoded}
 use Rattle.steps.specs.Accidentals.{Table, cleared}
 use Rattle.steps.specs.Notes.{joinsOf}
 use Rattle.steps.specs.Relation.{Attributed, Stored, Barred}
@@ -42,7 +42,8 @@ use Rattle.remarks.specs.Remarks.{placeAt, valueFrom}
 use Rattle.remarks.proofs.RemarkLaws.{openGroup}
 use Rattle.reading.specs.Walk.{Hand, armed, withDiagnostics, closingFor, remarked}
 use Rattle.reading.specs.Data.{attributesIn, begun, items, Begins, DataRead}
-use Rattle.reading.proofs.HoldLaws.{Holds, refuses, goes-on, ended}
+use Rattle.reading.specs.WholeBars.{Resting, withResting, barsAdded, Sound}
+use Rattle.reading.proofs.HoldLaws.{Holds, refuses, goes-on, firstRest, first-sound, further-stops, further-goes, ended}
 
 module _ (data′ : List ℕ) (start : ℕ) (n : ℕ) (scratch₀ : List ℤ) (room : Room) where
   -- a fresh reading of cleared cells
@@ -87,7 +88,7 @@ module _ (data′ : List ℕ) (start : ℕ) (n : ℕ) (scratch₀ : List ℤ) (r
         attributes = subst (λ (l : List Item). Attributed (st .attributes) (stateAfter (attributesIn a) l)) (sym is) (w .related .attributes);
         counted = w .counted ∙ ap (λ (l : List Item). countAfterAll n (map diagnosticWords (dataDiagnosed (attributesIn a) l))) (sym is);
         written = w .written ∙ ap (λ (l : List Item). cellsAfterAll scratch₀ n (map diagnosticWords (dataDiagnosed (attributesIn a) l))) (sym is);
-        few = omega (arith, w .few, w .within);
+        few = w .few;
       };
     }
       where
@@ -117,12 +118,35 @@ module _ (data′ : List ℕ) (start : ℕ) (n : ℕ) (scratch₀ : List ℤ) (r
         abbrev found : List (List ℤ)
         found = remarked token st notes data′ start tails at end
 
-        pub advances : {tails′ : ℕ} {st′ : Pae} {count : ℕ} {table′ : Table} {k : Keeping} {cursor′ : Cursor} {notes′ bars′ held′ scratch′ : List ℤ}
+        pub advances : rules.furtherBars (tokenIn (getD data′ at 0) (valueFrom data′ at end) token) ≡ 0 → {tails′ : ℕ} {st′ : Pae} {count : ℕ} {table′ : Table} {k : Keeping} {cursor′ : Cursor} {notes′ bars′ held′ scratch′ : List ℤ}
             → tails′ ≡ made .tails → count ≡ countAfterAll (st .diagnostics) found → scratch′ ≡ cellsAfterAll scratch (st .diagnostics) found
             → table′ ≡ made .table → st′ ≡ withDiagnostics count (made .st) → k ≡ made .pattern → cursor′ ≡ made .cursor → notes′ ≡ made .notes → bars′ ≡ made .bars → held′ ≡ made .figure
             → length bars′ ≡ length bars → length held′ ≡ length held → length scratch′ ≡ length scratch
             → Holds data′ start (attributesIn a) n scratch₀ size barsSize figureSize room 0 end tails′ st′ table′ k cursor′ notes′ bars′ held′ scratch′
         unfolding remarked
-        advances e0 e1 e2 e3 e4 e5 e6 e7 e8 e9 l1 l2 l3 =
-            rw (e0, e4, e1, e2, e3, e5, e6, e7, e8, e9) (goes-on data′ start (attributesIn a) n scratch₀ size barsSize figureSize room 0 w inside end ends token decoded joined joins passes lends lendsBars (closingFor token st notes) closes
+        advances alone e0 e1 e2 e3 e4 e5 e6 e7 e8 e9 l1 l2 l3 =
+            rw (e0, e4, e1, e2, e3, e5, e6, e7, e8, e9) (goes-on data′ start (attributesIn a) n scratch₀ size barsSize figureSize room 0 w inside end ends token decoded joined joins passes lends lendsBars (closingFor token st notes) closes alone
             (ap length (sym e8) ∙ l1) (ap length (sym e9) ∙ l2) (ap length (sym e2) ∙ l3))
+
+    -- an `=` token of two bars or more, its first rest stored
+    module _ (inside : at < length data′) (end : ℕ) (ends : end ≡ at + tokenSize (drop at data′)) (count : ℕ) (decoded : Decoded (getD data′ at 0) (valueFrom data′ at end) (t.WholeBars count))
+        (joined : Bool) (joins : joinsOf (st .voice) (st .counts) notes ≡ joined) (passes : checkOf (t.WholeBars count) st joined notes room ≡ 0) (lends : room .notes * noteSize ≤ size) (lendsBars : room .bars * barSize ≤ barsSize) where
+      abbrev rested : Resting
+      rested = firstRest data′ start (attributesIn a) n scratch₀ size barsSize figureSize room 0 w inside end ends count decoded joined joins passes lends lendsBars
+
+      pub rest-sound : Sound (room .notes) (rested .counts) (rested .notes)
+      rest-sound = first-sound data′ start (attributesIn a) n scratch₀ size barsSize figureSize room 0 w inside end ends count decoded joined joins passes lends lendsBars
+
+      module _ (r : Resting) (e : r ≡ barsAdded (count - 1) room (placeAt at tails) rested) where
+        -- a check fails
+        pub stops-further : {st′ : Pae} {notes′ bars′ scratch′ : List ℤ} → (r .number ≡ 0 → ⊥) → DataRead data′ start a n scratch₀ size barsSize room (record { number = r .number; place = placeAt at tails; st = st′ }) notes′ bars′ scratch′
+        stops-further z = record {
+          stops = further-stops data′ start (attributesIn a) n scratch₀ size barsSize figureSize room 0 w inside end ends count decoded joined joins passes lends lendsBars r e z
+              ∙ sym (ap (λ (q : Bool). cond q none (some (refusal (r .number) (placeAt at tails)))) (ne-eqb (r .number) 0 z));
+          finished = λ y. absurd (z y);
+        }
+
+        -- none does
+        pub advances-further : r .number ≡ 0 → 1 < count → length (r .bars) ≡ length bars
+            → Holds data′ start (attributesIn a) n scratch₀ size barsSize figureSize room 0 end tails (withResting r st) cleared pattern cursor (r .notes) (r .bars) held scratch
+        advances-further = further-goes data′ start (attributesIn a) n scratch₀ size barsSize figureSize room 0 w inside end ends count decoded joined joins passes lends lendsBars r e

@@ -40,6 +40,8 @@ arm-kind b value (t.Accidental alter) = refl
 arm-kind b value (t.Letter step) = refl
 arm-kind b value t.Chord = refl
 arm-kind b value t.Rest = refl
+arm-kind b value (t.WholeBars count) = refl
+arm-kind b value t.BadCount = refl
 arm-kind b value (t.Barline barline) = refl
 arm-kind b value (t.Grace slashed) = refl
 arm-kind b value (t.GraceGroup begins) = refl
@@ -47,7 +49,6 @@ arm-kind b value (t.Figure figure) = refl
 arm-kind b value (t.Marking marking) = refl
 arm-kind b value t.Blank = refl
 arm-kind b value t.Colon = refl
-arm-kind b value t.MeasureRest = refl
 arm-kind b value t.Unknown = refl
 
 -- the kind of a token is this
@@ -117,6 +118,8 @@ module _ (data′ : List ℕ) (at end : ℕ) (joined : Bool) (h : Hand) where
   by-arm (t.Letter step) = tt
   by-arm t.Chord = tt
   by-arm t.Rest = tt
+  by-arm (t.WholeBars count) = tt
+  by-arm t.BadCount = tt
   by-arm (t.Barline barline) = tt
   by-arm (t.Grace slashed) = tt
   by-arm (t.GraceGroup begins) = tt
@@ -124,7 +127,6 @@ module _ (data′ : List ℕ) (at end : ℕ) (joined : Bool) (h : Hand) where
   by-arm (t.Marking marking) = tt
   by-arm t.Blank = tt
   by-arm t.Colon = tt
-  by-arm t.MeasureRest = tt
   by-arm t.Unknown = tt
 
   -- of every token of the six kinds that the program decodes, in every state

@@ -10,7 +10,7 @@ use lib.ListN.{length, getD, take, drop}
 use lib.Seq.{slice}
 use Rattle.values.proofs.SliceLaws.{slice-part, slice-more}
 use lib.Dec.{eqb, leb}
-use borrow.Author.Tests.{ne-eqb, leb-true}
+use borrow.Author.Tests.{ne-eqb, leb-true, ltb-true}
 use Rattle.text.proofs.BoolLaws.{both}
 use Rattle.rules.specs.Limits.{noteLimit, noteSize, barSize, textLimit}
 use Rattle.rules.specs.Characters.{begun, charactersIn}
@@ -18,9 +18,9 @@ use Rattle.rules.specs.Cut.{tokenSize}
 use Rattle.rules.specs.Tokens.{Item, tokenOf, itemAt, itemsAfter}
 use Rattle.rules.specs.Records.{_or_, given, isEmpty, Diagnostic}
 use Rattle.rules.specs.Rules as rules
-use Rattle.rules.specs.Rules.{step, stateAfter}
+use Rattle.rules.specs.Rules.{step, furtherBars, inTurn, stateAfter}
 use Rattle.rules.specs.Diagnostics.{tokenDiagnosed, dataDiagnosed}
-use Rattle.rules.specs.Refusals.{LentRecords, Refusal, refusal, tokenRefusal, tokensRefusal}
+use Rattle.rules.specs.Refusals.{LentRecords, Refusal, refusal, tokenRefusal, refusalAt, refusalInTurn, tokensRefusal}
 use Rattle.rules.specs.Words.{diagnosticWords}
 use Rattle.text.proofs.PartLaws.{next-element}
 use Rattle.text.proofs.TokenLaws.{token-some, token-within}
@@ -34,9 +34,9 @@ use Rattle.decode.specs.declared.Marking.the-variants as m
 use Rattle.decode.specs.declared.Token.{Token}
 use Rattle.decode.specs.declared.Token.the-variants as t
 use Rattle.decode.specs.Decode.{tokenIn, Fine, Decoded}
-use Rattle.steps.specs.State.{hasContent, openLength, repeatedCount}
-use Rattle.steps.specs.Accidentals.{Table}
-use Rattle.steps.specs.Notes.{endsOf, joinsOf}
+use Rattle.steps.specs.State.{hasContent, openLength, repeatedCount, counted, withCounts}
+use Rattle.steps.specs.Accidentals.{Table, cleared}
+use Rattle.steps.specs.Notes.{endsOf, joinsOf, wholeBarCells}
 use Rattle.steps.specs.Steps.{countsNext, figureNext, stepped}
 use Rattle.steps.specs.Relation.{numberIn, Stored}
 use Rattle.steps.proofs.CountLaws.{length-open, content, first-below, last-below, blank-behind, length-notes, ends-agree, joins-agree}
@@ -56,36 +56,44 @@ use Rattle.reading.specs.Walk.{Hand, armed, withDiagnostics}
 use Rattle.records.specs.Notes.{markCountAt, marksAt}
 use Rattle.records.proofs.CellLaws.{record-word}
 use Rattle.reading.specs.Cells.{notesNext}
+use Rattle.reading.specs.WholeBars.{Resting, withResting, barsAdded, Sound}
 use Rattle.reading.specs.Ready.{Within, HasPlace, Blank, Asked, Ready}
 use Rattle.reading.proofs.TokenLaws as one
 use Rattle.reading.proofs.TokenLaws.{Related, token-related}
 use Rattle.reading.proofs.TakingLaws.{rhythm-agrees, taken-agrees}
 use Rattle.reading.proofs.PlaceLaws.{GoesOn, next-place}
+use Rattle.reading.proofs.WholeBarLaws.{Faces, first-refuses, sound-all, cleared-after, rest-along, turns-keep, faces}
 
 -- ---- bounds that a token keeps
 
-bars-more : (token : Token) (joined : Bool) (n : ℕ) (c : Counts) → countsNext token joined n c .bars ≤ c .bars + 1
-bars-more t.Clef joined n c = omega arith
-bars-more t.Key joined n c = omega arith
-bars-more t.Meter joined n c = omega arith
-bars-more (t.Octave octave) joined n c = omega arith
-bars-more t.Duration joined n c = omega arith
-bars-more (t.Accidental alter) joined n c = omega arith
-bars-more (t.Letter name) true n c = omega arith
-bars-more (t.Letter name) false n c = omega arith
-bars-more t.Chord joined n c = omega arith
-bars-more t.Rest joined n c = omega arith
-bars-more (t.Barline barline) joined n c = pick (λ (d : Counts). d .bars ≤ c .bars + 1) (hasContent c) (record { notes = c .notes; first = c .notes; last = c .first; bars = c .bars + 1 }) c (omega arith) (omega arith)
-bars-more (t.Grace slashed) joined n c = omega arith
-bars-more (t.GraceGroup begins) joined n c = omega arith
-bars-more (t.Figure f.Mark) joined n c = omega arith
-bars-more (t.Figure f.Repeat) joined n c = omega arith
-bars-more (t.Figure f.Bar) joined n c = omega arith
-bars-more (t.Marking marking) joined n c = omega arith
-bars-more t.Blank joined n c = omega arith
-bars-more t.Colon joined n c = omega arith
-bars-more t.MeasureRest joined n c = omega arith
-bars-more t.Unknown joined n c = omega arith
+-- there are no more bars than notes before the open bar: an empty bar isn't stored
+few-more : (token : Token) (joined : Bool) (n : ℕ) (c : Counts) → c .bars ≤ c .first → countsNext token joined n c .bars ≤ countsNext token joined n c .first
+few-more t.Clef joined n c h = h
+few-more t.Key joined n c h = h
+few-more t.Meter joined n c h = h
+few-more (t.Octave octave) joined n c h = h
+few-more t.Duration joined n c h = h
+few-more (t.Accidental alter) joined n c h = h
+few-more (t.Letter name) true n c h = h
+few-more (t.Letter name) false n c h = h
+few-more t.Chord joined n c h = h
+few-more t.Rest joined n c h = h
+few-more (t.WholeBars count) joined n c h = h
+few-more t.BadCount joined n c h = h
+few-more (t.Barline barline) joined n c h = go (hasContent c) refl
+  where
+    go : (b : Bool) → hasContent c ≡ b → let d = cond b (record { notes = c .notes; first = c .notes; last = c .first; bars = c .bars + 1 }) c in d .bars ≤ d .first
+    go true e = omega (arith, h, ltb-true (c .first) (c .notes) e)
+    go false e = h
+few-more (t.Grace slashed) joined n c h = h
+few-more (t.GraceGroup begins) joined n c h = h
+few-more (t.Figure f.Mark) joined n c h = h
+few-more (t.Figure f.Repeat) joined n c h = h
+few-more (t.Figure f.Bar) joined n c h = h
+few-more (t.Marking marking) joined n c h = h
+few-more t.Blank joined n c h = h
+few-more t.Colon joined n c h = h
+few-more t.Unknown joined n c h = h
 
 figure-small : (token : Token) (st : Pae) → st .figure ≤ noteLimit → st .counts .notes ≤ noteLimit → figureNext token st ≤ noteLimit
 figure-small t.Clef st h g = h
@@ -97,6 +105,8 @@ figure-small (t.Accidental alter) st h g = h
 figure-small (t.Letter name) st h g = h
 figure-small t.Chord st h g = h
 figure-small t.Rest st h g = h
+figure-small (t.WholeBars count) st h g = h
+figure-small t.BadCount st h g = h
 figure-small (t.Barline barline) st h g = h
 figure-small (t.Grace slashed) st h g = h
 figure-small (t.GraceGroup begins) st h g = h
@@ -113,7 +123,6 @@ figure-small (t.Figure f.Bar) st h g = h
 figure-small (t.Marking marking) st h g = h
 figure-small t.Blank st h g = h
 figure-small t.Colon st h g = h
-figure-small t.MeasureRest st h g = h
 figure-small t.Unknown st h g = h
 
 no-elements : {A : Type 0} (l : List A) → eqb (length l) 0 ≡ isEmpty l
@@ -153,7 +162,7 @@ module _ (data′ : List ℕ) (start : ℕ) (k : rules.Attributes) (count₀ : �
     pub rhythm : Standing data′ pattern cursor (stateAfter k before .pattern) (stateAfter k before .valuesTaken)
     pub counted : st .diagnostics ≡ countAfterAll count₀ (map diagnosticWords (dataDiagnosed k before))
     pub written : scratch ≡ cellsAfterAll scratch₀ count₀ (map diagnosticWords (dataDiagnosed k before))
-    pub few : st .counts .bars ≤ at
+    pub few : st .counts .bars ≤ st .counts .first
     pub small : st .figure ≤ noteLimit
     pub barsLength : length bars ≡ barsSize
     pub figureLength : length held ≡ figureSize
@@ -163,7 +172,8 @@ module _ (data′ : List ℕ) (start : ℕ) (k : rules.Attributes) (count₀ : �
   refusal-later : (r : Refusal) (j p o : ℕ) (xs : List ℕ) (e : List Item) → tokensRefusal lent k e ≡ some r → tokensRefusal lent k (itemsAfter j p o xs e) ≡ some r
   unfolding itemsAfter tokensRefusal
   refusal-later r j p o [] e h = h
-  refusal-later r zero p o (x ∷ xs) e h = refusal-later r (tokenSize (x ∷ xs) - 1) (p + 1) (o + 1) xs (itemAt p o x xs ∷ e) (ap (λ (q : Option Refusal). q or given (tokenRefusal lent (itemAt p o x xs .token) (stateAfter k e)) none (λ n. some (refusal n (itemAt p o x xs .place)))) h)
+  refusal-later r zero p o (x ∷ xs) e h = let y = itemAt p o x xs in
+      refusal-later r (tokenSize (x ∷ xs) - 1) (p + 1) (o + 1) xs (y ∷ e) (ap (λ (q : Option Refusal). q or refusalInTurn lent y (furtherBars (y .token)) (stateAfter k e)) h)
   refusal-later r (suc j) p o (x ∷ xs) e h = refusal-later r j (p + begun x) (o + 1) xs e h
 
   module _ {at tails : ℕ} {st : Pae} {table : Table} {pattern : Keeping} {cursor : Cursor} {notes bars held scratch : List ℤ} (w : Holds at tails st table pattern cursor notes bars held scratch) where
@@ -217,16 +227,58 @@ module _ (data′ : List ℕ) (start : ℕ) (k : rules.Attributes) (count₀ : �
       checked : tokenRefusal lent (item .token) s ≡ numberIn (checkOf token st joined notes room)
       checked = check-agrees st room cells (w .related .stored) (w .related .groups) (sym (figure-count (w .related .figured))) (sym rules-join) (getD data′ at 0) (valueFrom data′ at end) token
 
-      refused-here : tokensRefusal lent k (item ∷ w .before) ≡ given (numberIn (checkOf token st joined notes room)) none (λ n. some (refusal n here))
+      -- what it comes to with the tokens before it, by its own turns
+      refused-here : tokensRefusal lent k (item ∷ w .before) ≡ refusalInTurn lent item (furtherBars (item .token)) s
       unfolding tokensRefusal
-      refused-here = λ i. w .clean i or given (checked i) none (λ n. some (refusal n here))
+      refused-here = λ i. w .clean i or refusalInTurn lent item (furtherBars (item .token)) s
+
+      -- at its first
+      refused-first : refusalAt lent item s ≡ given (numberIn (checkOf token st joined notes room)) none (λ n. some (refusal n here))
+      refused-first = λ i. given (checked i) none (λ n. some (refusal n here))
+
+      -- a refusal stops the walk
+      pub stops-at : (r : Refusal) → refusalInTurn lent item (furtherBars (item .token)) s ≡ some r → tokensRefusal lent k (itemsAfter 0 1 start data′ []) ≡ some r
+      stops-at r e = ap (tokensRefusal lent k) reads-on ∙ refusal-later r 0 (placeAt end (made .tails)) (start + end) (drop end data′) (item ∷ w .before) (refused-here ∙ e)
+
+      -- after its first turn and so many further ones no check failed; all but what stands before it is known
+      pub record Turned (further : ℕ) (st′ : Pae) (table′ : Table) (pattern′ : Keeping) (cursor′ : Cursor) (notes′ bars′ held′ scratch′ : List ℤ) : Type 0 where
+        pub clean : refusalInTurn lent item further s ≡ none
+        pub related : Related size barsSize (inTurn item further s) st′ table′ notes′ bars′ held′
+        pub rhythm : Standing data′ pattern′ cursor′ (inTurn item further s .pattern) (inTurn item further s .valuesTaken)
+        pub counted : st′ .diagnostics ≡ countAfterAll count₀ (map diagnosticWords (dataDiagnosed k (item ∷ w .before)))
+        pub written : scratch′ ≡ cellsAfterAll scratch₀ count₀ (map diagnosticWords (dataDiagnosed k (item ∷ w .before)))
+        pub few : st′ .counts .bars ≤ st′ .counts .first
+        pub small : st′ .figure ≤ noteLimit
+        pub barsLength : length bars′ ≡ barsSize
+        pub figureLength : length held′ ≡ figureSize
+        pub scratchLength : length scratch′ ≡ length scratch₀
+
+      -- after all of its turns the walk stands behind it
+      pub settles : {st′ : Pae} {table′ : Table} {pattern′ : Keeping} {cursor′ : Cursor} {notes′ bars′ held′ scratch′ : List ℤ} → Turned (furtherBars (item .token)) st′ table′ pattern′ cursor′ notes′ bars′ held′ scratch′
+          → Holds end (made .tails) st′ table′ pattern′ cursor′ notes′ bars′ held′ scratch′
+      unfolding stateAfter
+      settles u = record {
+        before = item ∷ w .before;
+        within = not-beyond;
+        tailed = placed .tailed;
+        reads = reads-on;
+        clean = refused-here ∙ u .clean;
+        related = u .related;
+        rhythm = u .rhythm;
+        counted = u .counted;
+        written = u .written;
+        few = u .few;
+        small = u .small;
+        barsLength = u .barsLength;
+        figureLength = u .figureLength;
+        scratchLength = u .scratchLength;
+      }
 
       -- ---- it stops
 
       pub refuses : (n : ℕ) → n ≡ checkOf token st joined notes room → (n ≡ 0 → ⊥) → tokensRefusal lent k (itemsAfter 0 1 start data′ []) ≡ some (refusal n here)
-      refuses n e z =
-          ap (tokensRefusal lent k) reads-on ∙ refusal-later (refusal n here) 0 (placeAt end (made .tails)) (start + end) (drop end data′) (item ∷ w .before)
-          (refused-here ∙ ap (λ (m : ℕ). given (numberIn m) none (λ j. some (refusal j here))) (sym e) ∙ ap (λ (q : Bool). given (cond q none (some n)) none (λ j. some (refusal j here))) (ne-eqb n 0 z))
+      refuses n e z = stops-at (refusal n here) (first-refuses lent item s (refusal n here) (furtherBars (item .token))
+          (refused-first ∙ ap (λ (m : ℕ). given (numberIn m) none (λ j. some (refusal j here))) (sym e) ∙ ap (λ (q : Bool). given (cond q none (some n)) none (λ j. some (refusal j here))) (ne-eqb n 0 z)))
 
       -- ---- it goes on
 
@@ -242,6 +294,8 @@ module _ (data′ : List ℕ) (start : ℕ) (k : rules.Attributes) (count₀ : �
         roomy (t.Letter name) e = (λ j. checks.join-ready st joined notes room name j e, λ j. checks.open-ready st joined notes room (w .related .stored) lends name j e)
         roomy t.Chord e = tt
         roomy t.Rest e = checks.rest-ready st joined notes room (w .related .stored) lends e
+        roomy (t.WholeBars count) e = checks.rest-ready st joined notes room (w .related .stored) lends e
+        roomy t.BadCount e = tt
         roomy (t.Barline barline) e = λ h. omega (arith, checks.bar-ready st joined notes room barsSize barline lendsBars h e)
         roomy (t.Grace slashed) e = tt
         roomy (t.GraceGroup begins) e = tt
@@ -251,11 +305,11 @@ module _ (data′ : List ℕ) (start : ℕ) (k : rules.Attributes) (count₀ : �
         roomy (t.Marking marking) e = tt
         roomy t.Blank e = tt
         roomy t.Colon e = tt
-        roomy t.MeasureRest e = tt
         roomy t.Unknown e = tt
 
-        clean-on : tokensRefusal lent k (item ∷ w .before) ≡ none
-        clean-on = refused-here ∙ ap (λ (n : ℕ). given (numberIn n) none (λ j. some (refusal j here))) passes
+        -- its first check passes
+        pub passes-first : refusalAt lent item s ≡ none
+        passes-first = refused-first ∙ ap (λ (n : ℕ). given (numberIn n) none (λ j. some (refusal j here))) passes
 
         token-is : tokenIn (getD data′ at 0) (valueFrom data′ at end) token ≡ tokenOf (getD data′ at 0) (valueFrom data′ at end)
         token-is = decoded .0
@@ -272,7 +326,7 @@ module _ (data′ : List ℕ) (start : ℕ) (k : rules.Attributes) (count₀ : �
             first = first-below (w .related .stored);
             notes = omega (arith, w .related .stored .fits, length-notes (w .related .stored));
             capped = w .related .stored .capped;
-            bars = omega (arith, w .few, inside);
+            bars = omega (arith, w .few, first-below (w .related .stored), w .related .stored .capped);
           }
 
           place : (n : ℕ) → one.Fits size st n → HasPlace n (st .counts) notes
@@ -295,6 +349,8 @@ module _ (data′ : List ℕ) (start : ℕ) (k : rules.Attributes) (count₀ : �
           }
           asked t.Chord h e = tt
           asked t.Rest h e = let r = roomy t.Rest e in (record { within = within-here; place = place 1 r }, blank r)
+          asked (t.WholeBars count) h e = let r = roomy (t.WholeBars count) e in (record { within = within-here; place = place 1 r }, blank r)
+          asked t.BadCount h e = tt
           asked (t.Barline barline) h e = (λ f. omega (arith, roomy (t.Barline barline) e f, w .barsLength), omega (arith, w .related .stored .capped))
           asked (t.Grace slashed) h e = tt
           asked (t.GraceGroup begins) h e = tt
@@ -317,7 +373,6 @@ module _ (data′ : List ℕ) (start : ℕ) (k : rules.Attributes) (count₀ : �
           asked (t.Marking m.Trill) h e = record { within = within-here; room = λ f. let r = checks.trill-ready st joined notes room (w .related .stored) f e in (rw (record-word noteSize notes (st .counts .notes - 1) markCountAt (omega arith)) (r .0), rw (record-word noteSize notes (st .counts .notes - 1) marksAt (omega arith)) (r .1)) }
           asked t.Blank h e = tt
           asked t.Colon h e = tt
-          asked t.MeasureRest h e = tt
           asked t.Unknown h e = tt
 
           pub step-ready : Ready token st joined notes bars held
@@ -333,25 +388,21 @@ module _ (data′ : List ℕ) (start : ℕ) (k : rules.Attributes) (count₀ : �
               (content (s .openBar) (w .related .stored)) (length-open (w .related .stored)) (ap (λ (n : ℕ). eqb n 0) (figure-count (w .related .figured)) ∙ no-elements (s .figure))
               (ap (λ (n : ℕ). eqb n 0) (w .related .stored .bars) ∙ no-elements (s .bars)) (ends-agree (s .openBar) (w .related .stored)) (getD data′ at 0) token closes
 
-          pub goes-on : length (made .bars) ≡ length bars → length (made .figure) ≡ length held → length (cellsAfterAll scratch (st .diagnostics) found) ≡ length scratch
+          pub goes-on : furtherBars (item .token) ≡ 0 → length (made .bars) ≡ length bars → length (made .figure) ≡ length held → length (cellsAfterAll scratch (st .diagnostics) found) ≡ length scratch
               → Holds end (made .tails) (withDiagnostics (countAfterAll (st .diagnostics) found) (made .st)) (made .table) (made .pattern) (made .cursor) (made .notes) (made .bars) (made .figure) (cellsAfterAll scratch (st .diagnostics) found)
-          unfolding stateAfter dataDiagnosed stepped
-          goes-on lb lf ls = record {
-            before = item ∷ w .before;
-            within = not-beyond;
-            tailed = placed .tailed;
-            reads = reads-on;
-            clean = clean-on;
+          unfolding dataDiagnosed stepped
+          goes-on alone lb lf ls = settles (subst (λ (n : ℕ). Turned n (withDiagnostics (countAfterAll (st .diagnostics) found) (made .st)) (made .table) (made .pattern) (made .cursor) (made .notes) (made .bars) (made .figure) (cellsAfterAll scratch (st .diagnostics) found)) (sym alone) (record {
+            clean = passes-first;
             related = related-on;
             rhythm = rhythm-agrees here (start + at) (end - at) (getD data′ at 0) (valueFrom data′ at end) data′ s st (w .rhythm) (w .related .voice) joined rules-join at end not-beyond bytes-are token token-is;
             counted = ap (λ (n : ℕ). countAfterAll n found) (w .counted) ∙ sym (count-all found (map diagnosticWords (dataDiagnosed k (w .before))) count₀) ∙ ap (countAfterAll count₀) found-on;
             written = (λ i. cellsAfterAll (w .written i) (w .counted i) found) ∙ sym (cells-all found (map diagnosticWords (dataDiagnosed k (w .before))) scratch₀ count₀) ∙ ap (cellsAfterAll scratch₀ count₀) found-on;
-            few = omega (arith, bars-more token joined (st .figure) (st .counts), w .few, further);
+            few = few-more token joined (st .figure) (st .counts) (w .few);
             small = figure-small token st (w .small) (w .related .stored .capped);
             barsLength = lb ∙ w .barsLength;
             figureLength = lf ∙ w .figureLength;
             scratchLength = ls ∙ w .scratchLength;
-          }
+          }))
             where
               plain : Related size barsSize (step item s) (made .st) (made .table) (notesNext token st joined (rules.nextValue s) table here held notes) (made .bars) (made .figure)
               plain = token-related here (start + at) (end - at) (getD data′ at 0) (valueFrom data′ at end) (w .related) joined joins (rules.nextValue s) refl token (decoded .1) (roomy token passes)
@@ -372,6 +423,55 @@ module _ (data′ : List ℕ) (start : ℕ) (k : rules.Attributes) (count₀ : �
 
               found-on : found ++ map diagnosticWords (dataDiagnosed k (w .before)) ≡ map diagnosticWords (dataDiagnosed k (item ∷ w .before))
               found-on = ap (λ (ds : List Diagnostic). map diagnosticWords ds ++ map diagnosticWords (dataDiagnosed k (w .before))) found-is ∙ sym (map-append diagnosticWords (tokenDiagnosed item s (item .token)) (dataDiagnosed k (w .before)))
+
+    -- ---- an `=` token of two bars or more goes on or stops
+
+    module _ (inside : at < length data′) (end : ℕ) (ends : end ≡ at + tokenSize (drop at data′)) (count : ℕ) (decoded : Decoded (getD data′ at 0) (valueFrom data′ at end) (t.WholeBars count))
+        (joined : Bool) (joins : joinsOf (st .voice) (st .counts) notes ≡ joined) (passes : checkOf (t.WholeBars count) st joined notes room ≡ 0) (lends : room .notes * noteSize ≤ size) (lendsBars : room .bars * barSize ≤ barsSize) where
+      -- after its first rest
+      abbrev pub firstRest : Resting
+      firstRest = record { number = 0; counts = counted 1 (st .counts); attributes = st .attributes; notes = wholeBarCells (st .counts) here notes; bars = bars }
+
+      first-related : Related size barsSize (step (item inside end ends (t.WholeBars count) decoded joined joins) s) (withCounts (counted 1 (st .counts)) st) table (firstRest .notes) bars held
+      first-related = rest-along room cells here (start + at) (end - at) (getD data′ at 0) (valueFrom data′ at end) count (decoded .1) st held lends lendsBars (record { number = 0; counts = st .counts; attributes = st .attributes; notes = notes; bars = bars }) (w .related) passes
+
+      pub first-sound : Sound (room .notes) (firstRest .counts) (firstRest .notes)
+      first-sound = let r = first-related .stored in record {
+        state = step (item inside end ends (t.WholeBars count) decoded joined joins) s;
+        stored = subst (λ (n : ℕ). Stored n (step (item inside end ends (t.WholeBars count) decoded joined joins) s .openBar) (step (item inside end ends (t.WholeBars count) decoded joined joins) s .bars) (firstRest .counts) (firstRest .notes)) (sym (length-notes r)) r;
+        few = w .few;
+        lends = omega (arith, lends, length-notes r);
+      }
+
+      further-faces : Faces room cells here (start + at) (end - at) (getD data′ at 0) (valueFrom data′ at end) count (decoded .1) st held lends lendsBars s table (count - 1) (barsAdded (count - 1) room here firstRest)
+      further-faces = faces room cells here (start + at) (end - at) (getD data′ at 0) (valueFrom data′ at end) count (decoded .1) st held lends lendsBars s table (count - 1) firstRest
+          (record { goes = λ z. (first-related, passes-first inside end ends (t.WholeBars count) decoded joined joins passes lends lendsBars); stops = λ z. absurd (z refl) })
+
+      all-taken : let r = barsAdded (count - 1) room here firstRest in r .number ≡ 0 → 1 < count → length (r .bars) ≡ length bars → Holds end tails (withResting r st) cleared pattern cursor (r .notes) (r .bars) held scratch
+      unfolding dataDiagnosed
+      all-taken z more lb =
+          let x = item inside end ends (t.WholeBars count) decoded joined joins in
+          let r = barsAdded (count - 1) room here firstRest in
+          settles inside end ends (t.WholeBars count) decoded joined joins (record {
+            clean = further-faces .goes z .1;
+            related = subst (λ (l : Table). Related size barsSize (inTurn x (count - 1) s) (withResting r st) l (r .notes) (r .bars) held) (cleared-after (count - 1) table (omega arith)) (further-faces .goes z .0);
+            rhythm = turns-keep room cells here (start + at) (end - at) (getD data′ at 0) (valueFrom data′ at end) count (decoded .1) st held lends lendsBars (Standing data′ pattern cursor) (count - 1) s (w .rhythm);
+            counted = w .counted;
+            written = w .written;
+            few = sound-all (room .notes) room refl here (count - 1) firstRest first-sound .few;
+            small = w .small;
+            barsLength = lb ∙ w .barsLength;
+            figureLength = w .figureLength;
+            scratchLength = w .scratchLength;
+          })
+
+      module _ (r : Resting) (e : r ≡ barsAdded (count - 1) room here firstRest) where
+        pub further-stops : (r .number ≡ 0 → ⊥) → tokensRefusal lent k (itemsAfter 0 1 start data′ []) ≡ some (refusal (r .number) here)
+        further-stops z = stops-at inside end ends (t.WholeBars count) decoded joined joins (refusal (r .number) here)
+            (further-faces .stops (λ y. z (ap (λ (q : Resting). q .number) e ∙ y)) ∙ ap (λ (q : Resting). some (refusal (q .number) here)) (sym e))
+
+        pub further-goes : r .number ≡ 0 → 1 < count → length (r .bars) ≡ length bars → Holds end tails (withResting r st) cleared pattern cursor (r .notes) (r .bars) held scratch
+        further-goes = subst (λ (q : Resting). q .number ≡ 0 → 1 < count → length (q .bars) ≡ length bars → Holds end tails (withResting q st) cleared pattern cursor (q .notes) (q .bars) held scratch) (sym e) all-taken
 
     -- ---- it ends
 

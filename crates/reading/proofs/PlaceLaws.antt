@@ -28,7 +28,7 @@ use Rattle.reading.specs.Walk.{tailsNext}
 
 -- the tokens of the rules that may have bytes that continue a character: a clef, a blank, a token without a rule
 abbrev isWide : rules.Token → Bool
-isWide = elim [ rules.clef c ↦ true | rules.key k ↦ false | rules.meter m ↦ false | rules.octave o ↦ false | rules.duration p ↦ false | rules.accidental a ↦ false | rules.letter n ↦ false | rules.chord ↦ false | rules.rest ↦ false | rules.barline r l ↦ false | rules.grace g ↦ false | rules.graceGroup g ↦ false | rules.figure f ↦ false | rules.marking m ↦ false | rules.other o ↦ elim o [ rules.blank ↦ true | rules.colon ↦ false | rules.wholeBarRest ↦ false | rules.unknown ↦ true ] ]
+isWide = elim [ rules.clef c ↦ true | rules.key k ↦ false | rules.meter m ↦ false | rules.octave o ↦ false | rules.duration p ↦ false | rules.accidental a ↦ false | rules.letter n ↦ false | rules.chord ↦ false | rules.rest ↦ false | rules.barline r l ↦ false | rules.grace g ↦ false | rules.graceGroup g ↦ false | rules.figure f ↦ false | rules.marking m ↦ false | rules.other o ↦ elim o [ rules.blank ↦ true | rules.colon ↦ false | rules.unknown ↦ true | rules.wholeBars c ↦ false ] ]
 
 -- it is one of them
 abbrev Wide : rules.Token → Type 0
@@ -136,6 +136,8 @@ module _ (data′ : List ℕ) (at end tails : ℕ) (inside : at < length data′
   next-place (t.Letter step) d = plain (t.Letter step) d refl
   next-place t.Chord d = plain t.Chord d refl
   next-place t.Rest d = plain t.Rest d refl
+  next-place (t.WholeBars count) d = plain (t.WholeBars count) d refl
+  next-place t.BadCount d = plain t.BadCount d refl
   next-place (t.Barline barline) d = plain (t.Barline barline) d refl
   next-place (t.Grace slashed) d = plain (t.Grace slashed) d refl
   next-place (t.GraceGroup begins) d = plain (t.GraceGroup begins) d refl
@@ -143,7 +145,6 @@ module _ (data′ : List ℕ) (at end tails : ℕ) (inside : at < length data′
   next-place (t.Marking which) d = plain (t.Marking which) d refl
   next-place t.Blank d = wide
   next-place t.Colon d = plain t.Colon d refl
-  next-place t.MeasureRest d = plain t.MeasureRest d refl
   next-place t.Unknown d = wide
 
   -- a token that is no clef and begins with a byte below 128 has none

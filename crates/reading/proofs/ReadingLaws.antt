@@ -1,5 +1,5 @@
 -- The whole answer from its parts: the entry, the fields, the data and its end. Assumes nothing.
-use Prim.Native.Nat.{ℕ, _+_, _-_, _*_, _/_, _≤_}
+use Prim.Native.Nat.{ℕ, zero, suc, _+_, _-_, _*_, _/_, _≤_}
 use native.Mathlib.Omega.{arith}
 use mathlib.Core.Path.{_≡_, refl, sym, ap, _∙_}
 use mathlib.Core.Bool.{Bool, true, false, cond, _&&_}
@@ -17,7 +17,7 @@ use Rattle.rules.specs.Rules as rules
 use Rattle.rules.specs.Fields.{fieldsOf, fieldsDiagnosed, dataOf}
 use Rattle.rules.specs.Diagnostics.{dataDiagnosed}
 use Rattle.rules.specs.Characters.{charactersIn}
-use Rattle.rules.specs.Refusals.{Refusal, refusal, tokenRefusal, tokensRefusal, overBars, endRefusal, dataRefusal, refusalOf}
+use Rattle.rules.specs.Refusals.{Refusal, refusal, refusalAt, refusalInTurn, tokensRefusal, overBars, endRefusal, dataRefusal, refusalOf}
 use Rattle.rules.specs.Reading.{Lent, lentRecords, attributesOf, tokensOf, diagnosticsOf, Reading, accepted, refused, reading}
 use Rattle.rules.specs.Words as words
 use Rattle.rules.specs.Words.{zeros, padded, storedDiagnostics}
@@ -118,7 +118,12 @@ module _ (text : List ℕ) (lent : Lent) where
 tokens-same : (room : Room) (n : ℕ) (k : rules.Attributes) (xs : List Item) → tokensRefusal (record { notes = room .notes; bars = room .bars; figure = room .figure; diagnostics = n }) k xs ≡ tokensRefusal (walk.lent room) k xs
 unfolding tokensRefusal
 tokens-same room n k [] = refl
-tokens-same room n k (x ∷ xs) = ap (λ (o : Option Refusal). o or given (tokenRefusal (walk.lent room) (x .token) (rules.stateAfter k xs)) none (λ m. some (refusal m (x .place)))) (tokens-same room n k xs)
+tokens-same room n k (x ∷ xs) = λ i. tokens-same room n k xs i or turns-same (rules.furtherBars (x .token)) i
+  where
+    turns-same : (further : ℕ) → refusalInTurn (record { notes = room .notes; bars = room .bars; figure = room .figure; diagnostics = n }) x further (rules.stateAfter k xs) ≡ refusalInTurn (walk.lent room) x further (rules.stateAfter k xs)
+    turns-same zero = refl
+    turns-same (suc further) = let u = rules.inTurn x further (rules.stateAfter k xs) in
+        ap (λ (o : Option Refusal). o or refusalAt (walk.lent room) (rules.innerBarline x) u or refusalAt (walk.lent room) x (rules.step (rules.innerBarline x) u)) (turns-same further)
 
 -- ---- a text with data
 

@@ -51,6 +51,8 @@ module _ (place offset width b : ℕ) (value text : List ℕ) (s : rules.State) 
   rhythm-agrees from to h e (t.Letter name) d = letter-stands name
   rhythm-agrees from to h e t.Chord d = other-stands place offset width b value text s w t.Chord tt
   rhythm-agrees from to h e t.Rest d = rest-stands place offset width b value text s w
+  rhythm-agrees from to h e (t.WholeBars count) d = other-stands place offset width b value text s w (t.WholeBars count) tt
+  rhythm-agrees from to h e t.BadCount d = other-stands place offset width b value text s w t.BadCount tt
   rhythm-agrees from to h e (t.Barline barline) d = other-stands place offset width b value text s w (t.Barline barline) tt
   rhythm-agrees from to h e (t.Grace slashed) d = other-stands place offset width b value text s w (t.Grace slashed) tt
   rhythm-agrees from to h e (t.GraceGroup begins) d = other-stands place offset width b value text s w (t.GraceGroup begins) tt
@@ -58,7 +60,6 @@ module _ (place offset width b : ℕ) (value text : List ℕ) (s : rules.State) 
   rhythm-agrees from to h e (t.Marking marking) d = other-stands place offset width b value text s w (t.Marking marking) tt
   rhythm-agrees from to h e t.Blank d = other-stands place offset width b value text s w t.Blank tt
   rhythm-agrees from to h e t.Colon d = other-stands place offset width b value text s w t.Colon tt
-  rhythm-agrees from to h e t.MeasureRest d = other-stands place offset width b value text s w t.MeasureRest tt
   rhythm-agrees from to h e t.Unknown d = other-stands place offset width b value text s w t.Unknown tt
 
   -- the notes after a token depend on its value only where it takes one
@@ -79,6 +80,8 @@ module _ (place offset width b : ℕ) (value text : List ℕ) (s : rules.State) 
       go false false = ap (λ l. notesNext (t.Letter name) st false l table place held notes) (value-agrees place offset width b value text s w)
   taken-agrees t.Chord table held notes = refl
   taken-agrees t.Rest table held notes = ap (λ l. notesNext t.Rest st joined l table place held notes) (value-agrees place offset width b value text s w)
+  taken-agrees (t.WholeBars count) table held notes = refl
+  taken-agrees t.BadCount table held notes = refl
   taken-agrees (t.Barline barline) table held notes = refl
   taken-agrees (t.Grace slashed) table held notes = refl
   taken-agrees (t.GraceGroup begins) table held notes = refl
@@ -86,5 +89,4 @@ module _ (place offset width b : ℕ) (value text : List ℕ) (s : rules.State) 
   taken-agrees (t.Marking marking) table held notes = refl
   taken-agrees t.Blank table held notes = refl
   taken-agrees t.Colon table held notes = refl
-  taken-agrees t.MeasureRest table held notes = refl
   taken-agrees t.Unknown table held notes = refl

@@ -58,6 +58,8 @@ Room size barsSize st joined notes token = elim token [
   | t.Letter step ↦ (joined ≡ true → lastField pitchCountAt (st .counts) notes < pitchCapacity) × (joined ≡ false → Fits size st 1)
   | t.Chord ↦ Unit {0}
   | t.Rest ↦ Fits size st 1
+  | t.WholeBars count ↦ Fits size st 1
+  | t.BadCount ↦ Unit {0}
   | t.Barline barline ↦ hasContent (st .counts) ≡ true → st .counts .bars * barSize + barSize ≤ barsSize
   | t.Grace slashed ↦ Unit {0}
   | t.GraceGroup begins ↦ Unit {0}
@@ -65,7 +67,6 @@ Room size barsSize st joined notes token = elim token [
   | t.Marking marking ↦ Unit {0}
   | t.Blank ↦ Unit {0}
   | t.Colon ↦ Unit {0}
-  | t.MeasureRest ↦ Unit {0}
   | t.Unknown ↦ Unit {0}
 ]
 
@@ -94,28 +95,29 @@ module _ (place offset width b : ℕ) (value : List ℕ) {size barsSize : ℕ} {
   stored-agrees : (token : Token) → Fine b token → Room size barsSize st joined notes token
       → Stored size (After token .openBar) (After token .bars) (countsNext token joined (st .figure) (st .counts)) (notesNext token st joined taken table place held notes)
   unfolding notesNext
-  stored-agrees t.Clef h q = storing.quiet-stored place offset width s (w .stored) _ refl refl refl refl refl
-  stored-agrees t.Key h q = storing.quiet-stored place offset width s (w .stored) _ refl refl refl refl refl
-  stored-agrees t.Meter h q = storing.quiet-stored place offset width s (w .stored) _ refl refl refl refl refl
-  stored-agrees (t.Octave octave) h q = storing.quiet-stored place offset width s (w .stored) _ refl refl refl refl refl
-  stored-agrees t.Duration h q = storing.quiet-stored place offset width s (w .stored) _ refl refl refl refl refl
-  stored-agrees (t.Accidental alter) h q = storing.quiet-stored place offset width s (w .stored) _ refl refl refl refl refl
+  stored-agrees t.Clef h q = storing.quiet-stored place offset width s (w .stored) _ refl refl refl refl refl refl
+  stored-agrees t.Key h q = storing.quiet-stored place offset width s (w .stored) _ refl refl refl refl refl refl
+  stored-agrees t.Meter h q = storing.quiet-stored place offset width s (w .stored) _ refl refl refl refl refl refl
+  stored-agrees (t.Octave octave) h q = storing.quiet-stored place offset width s (w .stored) _ refl refl refl refl refl refl
+  stored-agrees t.Duration h q = storing.quiet-stored place offset width s (w .stored) _ refl refl refl refl refl refl
+  stored-agrees (t.Accidental alter) h q = storing.quiet-stored place offset width s (w .stored) _ refl refl refl refl refl refl
   stored-agrees (t.Letter name) h q =
       subst (λ (j : Bool). Stored size (After (t.Letter name) .openBar) (After (t.Letter name) .bars) (countsNext (t.Letter name) j (st .figure) (st .counts)) (notesNext (t.Letter name) st j taken table place held notes)) joins
       (storing.letter-stored place offset width s (w .stored) (w .voice) name taken _ next (alter-agrees (w .voice) (w .attributes) (w .tabled) name h) (λ e. q .0 (sym joins ∙ e)) (λ e. q .1 (sym joins ∙ e)))
-  stored-agrees t.Chord h q = storing.quiet-stored place offset width s (w .stored) _ refl refl refl refl refl
+  stored-agrees t.Chord h q = storing.quiet-stored place offset width s (w .stored) _ refl refl refl refl refl refl
   stored-agrees t.Rest h q = storing.rest-stored place offset width s (w .stored) taken next (q .0) (q .1)
+  stored-agrees (t.WholeBars count) h q = storing.whole-bar-stored place offset width s (w .stored) count (q .0) (q .1)
+  stored-agrees t.BadCount h q = storing.quiet-stored place offset width s (w .stored) _ refl refl refl refl refl refl
   stored-agrees (t.Barline barline) h q = storing.barline-stored place offset width s (w .stored) (barline .right) (barline .left)
-  stored-agrees (t.Grace slashed) h q = storing.quiet-stored place offset width s (w .stored) _ refl refl refl refl refl
-  stored-agrees (t.GraceGroup begins) h q = storing.quiet-stored place offset width s (w .stored) _ refl refl refl refl refl
+  stored-agrees (t.Grace slashed) h q = storing.quiet-stored place offset width s (w .stored) _ refl refl refl refl refl refl
+  stored-agrees (t.GraceGroup begins) h q = storing.quiet-stored place offset width s (w .stored) _ refl refl refl refl refl refl
   stored-agrees (t.Figure f.Mark) h q = storing.figure-mark-stored place offset width s (w .stored)
   stored-agrees (t.Figure f.Repeat) h q = storing.figure-repeat-stored place offset width s (w .stored) (w .figured) (q .0) (q .1)
   stored-agrees (t.Figure f.Bar) h q = storing.bar-repeat-stored place offset width s (w .stored) (q .0) (q .1)
   stored-agrees (t.Marking marking) h q = stored-marking marking
-  stored-agrees t.Blank h q = storing.quiet-stored place offset width s (w .stored) _ refl refl refl refl refl
-  stored-agrees t.Colon h q = storing.quiet-stored place offset width s (w .stored) _ refl refl refl refl refl
-  stored-agrees t.MeasureRest h q = storing.quiet-stored place offset width s (w .stored) _ refl refl refl refl refl
-  stored-agrees t.Unknown h q = storing.quiet-stored place offset width s (w .stored) _ refl refl refl refl refl
+  stored-agrees t.Blank h q = storing.quiet-stored place offset width s (w .stored) _ refl refl refl refl refl refl
+  stored-agrees t.Colon h q = storing.quiet-stored place offset width s (w .stored) _ refl refl refl refl refl refl
+  stored-agrees t.Unknown h q = storing.quiet-stored place offset width s (w .stored) _ refl refl refl refl refl refl
 
   -- ---- the accidentals, the bars, the figure
 
@@ -130,6 +132,8 @@ module _ (place offset width b : ℕ) (value : List ℕ) {size barsSize : ℕ} {
   tabled-agrees (t.Letter name) h = tabled-letter name h (w .voice) (w .tabled) refl
   tabled-agrees t.Chord h = tabled-same refl (w .tabled)
   tabled-agrees t.Rest h = tabled-same refl (w .tabled)
+  tabled-agrees (t.WholeBars count) h = tabled-same refl (w .tabled)
+  tabled-agrees t.BadCount h = tabled-same refl (w .tabled)
   tabled-agrees (t.Barline barline) h = tabled-clear refl
   tabled-agrees (t.Grace slashed) h = tabled-same refl (w .tabled)
   tabled-agrees (t.GraceGroup begins) h = tabled-same refl (w .tabled)
@@ -137,7 +141,6 @@ module _ (place offset width b : ℕ) (value : List ℕ) {size barsSize : ℕ} {
   tabled-agrees (t.Marking marking) h = tabled-same refl (w .tabled)
   tabled-agrees t.Blank h = tabled-same refl (w .tabled)
   tabled-agrees t.Colon h = tabled-same refl (w .tabled)
-  tabled-agrees t.MeasureRest h = tabled-same refl (w .tabled)
   tabled-agrees t.Unknown h = tabled-same refl (w .tabled)
 
   barred-agrees : (token : Token) → Room size barsSize st joined notes token → Barred barsSize (After token .bars) (barsNext token st bars)
@@ -151,6 +154,8 @@ module _ (place offset width b : ℕ) (value : List ℕ) {size barsSize : ℕ} {
   barred-agrees (t.Letter name) q = w .barred
   barred-agrees t.Chord q = w .barred
   barred-agrees t.Rest q = w .barred
+  barred-agrees (t.WholeBars count) q = w .barred
+  barred-agrees t.BadCount q = w .barred
   barred-agrees (t.Barline barline) q = bars-closed s (barline .right) (w .attributes) (w .stored) (w .barred) (λ e. subst (λ (n : ℕ). n * barSize + barSize ≤ barsSize) (w .stored .bars) (q e))
   barred-agrees (t.Grace slashed) q = w .barred
   barred-agrees (t.GraceGroup begins) q = w .barred
@@ -158,7 +163,6 @@ module _ (place offset width b : ℕ) (value : List ℕ) {size barsSize : ℕ} {
   barred-agrees (t.Marking marking) q = w .barred
   barred-agrees t.Blank q = w .barred
   barred-agrees t.Colon q = w .barred
-  barred-agrees t.MeasureRest q = w .barred
   barred-agrees t.Unknown q = w .barred
 
   figured-agrees : (token : Token) → Figured (After token .figure) (figureNext token st) (heldNext token st notes held)
@@ -172,6 +176,8 @@ module _ (place offset width b : ℕ) (value : List ℕ) {size barsSize : ℕ} {
   figured-agrees (t.Letter name) = w .figured
   figured-agrees t.Chord = w .figured
   figured-agrees t.Rest = w .figured
+  figured-agrees (t.WholeBars count) = w .figured
+  figured-agrees t.BadCount = w .figured
   figured-agrees (t.Barline barline) = w .figured
   figured-agrees (t.Grace slashed) = w .figured
   figured-agrees (t.GraceGroup begins) = w .figured
@@ -181,7 +187,6 @@ module _ (place offset width b : ℕ) (value : List ℕ) {size barsSize : ℕ} {
   figured-agrees (t.Marking marking) = w .figured
   figured-agrees t.Blank = w .figured
   figured-agrees t.Colon = w .figured
-  figured-agrees t.MeasureRest = w .figured
   figured-agrees t.Unknown = w .figured
 
   -- ---- all of it

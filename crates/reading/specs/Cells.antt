@@ -24,7 +24,7 @@ use Rattle.decode.specs.declared.Token.the-variants as t
 use Rattle.steps.specs.State.{hasContent, openLength, repeatedCount}
 use Rattle.steps.specs.Accidentals.{Table, entry, alterOf}
 use Rattle.steps.specs.Bars.{storedBars}
-use Rattle.steps.specs.Notes.{endsOf, joinedCells, openedCells, restCells, tiedCells, trilledCells, closedCells}
+use Rattle.steps.specs.Notes.{endsOf, joinedCells, openedCells, restCells, wholeBarCells, tiedCells, trilledCells, closedCells}
 use Rattle.steps.specs.Relation.{countIn}
 
 -- ---- parts of the open bar
@@ -101,6 +101,8 @@ notesNext token st joined length table place held cells = elim token [
   | t.Letter step ↦ letterCells step st joined length table place cells
   | t.Chord ↦ cells
   | t.Rest ↦ restCells (st .counts) length place cells
+  | t.WholeBars count ↦ wholeBarCells (st .counts) place cells
+  | t.BadCount ↦ cells
   | t.Barline barline ↦ cells
   | t.Grace slashed ↦ cells
   | t.GraceGroup begins ↦ cells
@@ -108,7 +110,6 @@ notesNext token st joined length table place held cells = elim token [
   | t.Marking marking ↦ markingCells marking st cells
   | t.Blank ↦ cells
   | t.Colon ↦ cells
-  | t.MeasureRest ↦ cells
   | t.Unknown ↦ cells
 ]
 
@@ -123,6 +124,8 @@ barsNext token st cells = elim token [
   | t.Letter step ↦ cells
   | t.Chord ↦ cells
   | t.Rest ↦ cells
+  | t.WholeBars count ↦ cells
+  | t.BadCount ↦ cells
   | t.Barline barline ↦ storedBars (st .counts) (st .attributes) (barline .right) cells
   | t.Grace slashed ↦ cells
   | t.GraceGroup begins ↦ cells
@@ -130,7 +133,6 @@ barsNext token st cells = elim token [
   | t.Marking marking ↦ cells
   | t.Blank ↦ cells
   | t.Colon ↦ cells
-  | t.MeasureRest ↦ cells
   | t.Unknown ↦ cells
 ]
 
@@ -146,6 +148,8 @@ heldNext token st cells held = elim token [
   | t.Letter step ↦ held
   | t.Chord ↦ held
   | t.Rest ↦ held
+  | t.WholeBars count ↦ held
+  | t.BadCount ↦ held
   | t.Barline barline ↦ held
   | t.Grace slashed ↦ held
   | t.GraceGroup begins ↦ held
@@ -153,6 +157,5 @@ heldNext token st cells held = elim token [
   | t.Marking marking ↦ held
   | t.Blank ↦ held
   | t.Colon ↦ held
-  | t.MeasureRest ↦ held
   | t.Unknown ↦ held
 ]

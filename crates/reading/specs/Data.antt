@@ -64,7 +64,7 @@ module _ (data′ : List ℕ) (start : ℕ) (a : Attributes) (n : ℕ) (scratch�
     pub attributes : Attributed (st .attributes) state
     pub counted : st .diagnostics ≡ countAfterAll n remarks
     pub written : scratch ≡ cellsAfterAll scratch₀ n remarks
-    pub few : st .counts .bars ≤ length data′
+    pub few : st .counts .bars ≤ st .counts .first
 
   pub record DataRead (room : Room) (r : Outcome) (notes bars scratch : List ℤ) : Type 0 where
     -- the first token at which a check fails stops the walk

@@ -19,6 +19,8 @@ kindOfArm token = elim token [
   | t.Letter step ↦ none
   | t.Chord ↦ none
   | t.Rest ↦ none
+  | t.WholeBars count ↦ none
+  | t.BadCount ↦ none
   | t.Barline barline ↦ none
   | t.Grace slashed ↦ none
   | t.GraceGroup begins ↦ none
@@ -26,7 +28,6 @@ kindOfArm token = elim token [
   | t.Marking marking ↦ none
   | t.Blank ↦ none
   | t.Colon ↦ none
-  | t.MeasureRest ↦ none
   | t.Unknown ↦ none
 ]
 

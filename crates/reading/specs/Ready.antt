@@ -104,6 +104,8 @@ Asked (t.Accidental alter) st joined cells bars held = Unit {0}
 Asked (t.Letter step) st joined cells bars held = LetterReady (st .counts) joined cells
 Asked t.Chord st joined cells bars held = Unit {0}
 Asked t.Rest st joined cells bars held = PlaceReady 1 (st .counts) cells × Blank (st .counts) cells
+Asked (t.WholeBars count) st joined cells bars held = PlaceReady 1 (st .counts) cells × Blank (st .counts) cells
+Asked t.BadCount st joined cells bars held = Unit {0}
 Asked (t.Barline barline) st joined cells bars held = BarReady (st .counts) bars
 Asked (t.Grace slashed) st joined cells bars held = Unit {0}
 Asked (t.GraceGroup begins) st joined cells bars held = Unit {0}
@@ -111,7 +113,6 @@ Asked (t.Figure figure) st joined cells bars held = FigureAsked figure st cells 
 Asked (t.Marking marking) st joined cells bars held = MarkingAsked marking st cells
 Asked t.Blank st joined cells bars held = Unit {0}
 Asked t.Colon st joined cells bars held = Unit {0}
-Asked t.MeasureRest st joined cells bars held = Unit {0}
 Asked t.Unknown st joined cells bars held = Unit {0}
 
 -- what a token that can be taken asks

@@ -28,6 +28,8 @@ takenNext token joined v text k c = elim token [
   | t.Letter step ↦ letterValue joined v c (valueAt text k c)
   | t.Chord ↦ staying c quarter
   | t.Rest ↦ valueAt text k c
+  | t.WholeBars count ↦ staying c quarter
+  | t.BadCount ↦ staying c quarter
   | t.Barline barline ↦ staying c quarter
   | t.Grace slashed ↦ staying c quarter
   | t.GraceGroup begins ↦ staying c quarter
@@ -35,7 +37,6 @@ takenNext token joined v text k c = elim token [
   | t.Marking marking ↦ staying c quarter
   | t.Blank ↦ staying c quarter
   | t.Colon ↦ staying c quarter
-  | t.MeasureRest ↦ staying c quarter
   | t.Unknown ↦ staying c quarter
 ]
 
@@ -51,6 +52,8 @@ patternNext token text at end k = elim token [
   | t.Letter step ↦ k
   | t.Chord ↦ k
   | t.Rest ↦ k
+  | t.WholeBars count ↦ k
+  | t.BadCount ↦ k
   | t.Barline barline ↦ k
   | t.Grace slashed ↦ k
   | t.GraceGroup begins ↦ k
@@ -58,7 +61,6 @@ patternNext token text at end k = elim token [
   | t.Marking marking ↦ k
   | t.Blank ↦ k
   | t.Colon ↦ k
-  | t.MeasureRest ↦ k
   | t.Unknown ↦ k
 ]
 
@@ -74,6 +76,8 @@ cursorNext token q next = elim token [
   | t.Letter step ↦ next
   | t.Chord ↦ next
   | t.Rest ↦ next
+  | t.WholeBars count ↦ next
+  | t.BadCount ↦ next
   | t.Barline barline ↦ next
   | t.Grace slashed ↦ next
   | t.GraceGroup begins ↦ next
@@ -81,6 +85,5 @@ cursorNext token q next = elim token [
   | t.Marking marking ↦ next
   | t.Blank ↦ next
   | t.Colon ↦ next
-  | t.MeasureRest ↦ next
   | t.Unknown ↦ next
 ]

@@ -44,6 +44,8 @@ tailsNext token value tails = elim token [
   | t.Letter step ↦ tails
   | t.Chord ↦ tails
   | t.Rest ↦ tails
+  | t.WholeBars count ↦ tails
+  | t.BadCount ↦ tails
   | t.Barline barline ↦ tails
   | t.Grace slashed ↦ tails
   | t.GraceGroup begins ↦ tails
@@ -51,7 +53,6 @@ tailsNext token value tails = elim token [
   | t.Marking which ↦ tails
   | t.Blank ↦ tails + tailsIn value
   | t.Colon ↦ tails
-  | t.MeasureRest ↦ tails
   | t.Unknown ↦ tails + tailsIn value
 ]
 
@@ -90,6 +91,8 @@ closingFor token st cells = elim token [
   | t.Letter step ↦ nothing
   | t.Chord ↦ nothing
   | t.Rest ↦ nothing
+  | t.WholeBars count ↦ nothing
+  | t.BadCount ↦ nothing
   | t.Barline barline ↦ nothing
   | t.Grace slashed ↦ nothing
   | t.GraceGroup begins ↦ nothing
@@ -97,7 +100,6 @@ closingFor token st cells = elim token [
   | t.Marking which ↦ markingClosing which st cells
   | t.Blank ↦ nothing
   | t.Colon ↦ nothing
-  | t.MeasureRest ↦ nothing
   | t.Unknown ↦ nothing
 ]
 

@@ -17,6 +17,7 @@ use super::step::tails_after;
 use super::step::tie;
 use super::step::trill;
 use super::step::voice_after;
+use super::whole_bars::further_bars;
 use checks::Room;
 use checks::check_bar;
 use checks::check_group;
@@ -33,6 +34,7 @@ use diagnose::store_found;
 use limits::Attributes;
 use limits::Pae;
 use remarks::Span;
+use remarks::after_first;
 use remarks::clef_remarks;
 use remarks::count_found;
 use remarks::group_found;
@@ -221,6 +223,41 @@ pub fn read_data(
                 cursor = value.next;
                 continue;
             }
+            // Rests of whole bars: `=` with their count.
+            Token::WholeBars(count) => {
+                let stop = room_for(st.counts.notes, 1, room.notes);
+                if stop != 0 {
+                    return stopped(stop, span, st);
+                }
+                notes::whole_bar_rest(notes, st.counts, span.place);
+                st.counts = state::counted(st.counts, 1);
+                if count == 1 {
+                    continue;
+                }
+                let rested = further_bars(
+                    count - 1,
+                    st.counts,
+                    st.attributes,
+                    notes,
+                    bars,
+                    span.place,
+                    room,
+                );
+                if rested.number != 0 {
+                    return stopped(rested.number, span, st);
+                }
+                let counts = rested.counts;
+                let attributes = rested.attributes;
+                st.counts = counts;
+                st.attributes = attributes;
+                table = cleared();
+                continue;
+            }
+            Token::BadCount => {
+                let found = after_first(20, span);
+                st.diagnostics = store_found(scratch, st.diagnostics, found);
+                continue;
+            }
             // Barline: `/`, `//`, `//:`, `://`, `://:`.
             Token::Barline(barline) => {
                 let stop = check_bar(st.counts, room.bars);
@@ -361,10 +398,6 @@ pub fn read_data(
                 let found = whole(9, span);
                 st.diagnostics = store_found(scratch, st.diagnostics, found);
                 continue;
-            }
-            // Whole-bar rests aren't read.
-            Token::MeasureRest => {
-                return stopped(6, span, st);
             }
             // A token without a rule.
             Token::Unknown => {

@@ -3,7 +3,7 @@ ghost use mathlib.Core.Path.{_≡_};
 ghost use Prim.Native.Nat.{_+_, _*_, _≤_};
 ghost use mathlib.Core.Bool.{true};
 ghost use lib.ListN.{length};
-ghost use Rattle.rules.specs.Limits.{textLimit, noteLimit, diagnosticLimit, barSize};
+ghost use Rattle.rules.specs.Limits.{noteLimit, diagnosticLimit, barSize};
 ghost use Rattle.rules.specs.Words.{zeros};
 ghost use Rattle.steps.specs.Bars.{storedBars};
 ghost use Rattle.steps.specs.State.{hasContent};
@@ -68,7 +68,7 @@ fn refuse(
 
 // The end closes a non-empty bar; the figure's cells are 0.
 fn finish(bars: &mut [i32], figure: &mut [i32], st: Pae) -> Reading
-    requires { ⌜ (hasContent (st .counts) ≡ true → st .counts .bars * barSize + barSize ≤ length (now bars)) × (st .counts .notes ≤ noteLimit) × (st .counts .bars ≤ textLimit) × (st .diagnostics ≤ diagnosticLimit) ⌝ }
+    requires { ⌜ (hasContent (st .counts) ≡ true → st .counts .bars * barSize + barSize ≤ length (now bars)) × (st .counts .notes ≤ noteLimit) × (st .counts .bars ≤ noteLimit) × (st .diagnostics ≤ diagnosticLimit) ⌝ }
     ensures { λ r. ⌜ (r ≡ finishedWith st) × (now (bars .exit) ≡ storedBars (st .counts) (st .attributes) 0 (now (bars .entry))) × (now (figure .exit) ≡ zeros (length (now (figure .entry)))) ⌝ }
 {
     store_bar(bars, st.counts, st.attributes, 0);

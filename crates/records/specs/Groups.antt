@@ -1,12 +1,13 @@
 -- Groups: what is counted in a part of the note cells, and what is changed at its non-grace records. Assumes nothing.
 use Prim.Native.Nat.{ℕ, zero, suc, _+_, _*_}
-use mathlib.Core.Bool.{Bool, true, false, cond}
+use mathlib.Core.Bool.{Bool, true, false, not, cond}
 use mathlib.Core.Option.{Option, none, some}
 use mathlib.Core.List.{List, _++_}
 use lib.IntN.{ℤ, pos}
 use lib.ListN.{getD, set, take, drop}
-use lib.Dec.{eqb, leb, ltb}
+use lib.Dec.{eqb, ltb}
 use Rattle.rules.specs.Limits.{noteSize}
+use Rattle.rules.specs.Records.{isGraceKind}
 use Rattle.rules.specs.Rules as rules
 use Rattle.records.specs.declared.group.Notation.{Notation}
 use Rattle.records.specs.declared.group.Notation.the-variants.{Beam, Tuplet}
@@ -16,9 +17,9 @@ use Rattle.rules.specs.Stored.{natural}
 use Rattle.records.specs.Cells.{changed}
 use Rattle.records.specs.Notes.{kindAt, beamAt, actualAt, normalAt, marked}
 
--- record `number` is non-grace: kind 0 or 1
+-- record `number` is non-grace
 abbrev pub timedAt : List ℤ → ℕ → Bool
-timedAt l number = leb (natural (getD l (number * noteSize + kindAt) (pos 0))) 1
+timedAt l number = not (isGraceKind (natural (getD l (number * noteSize + kindAt) (pos 0))))
 
 -- how many of the first records are non-grace
 unfoldable pub timedCount : List ℤ → ℕ → ℕ

@@ -44,7 +44,7 @@ fn is_timed(part: &[i32], number: usize) -> bool
     ensures { λ r. ⌜ r ≡ timedAt (now (part .entry)) number ⌝ }
 {
     let kind = field(part, number, KIND);
-    kind <= 1
+    !((kind == 2) | (kind == 3))
 }
 
 // One of two numbers, by a test.

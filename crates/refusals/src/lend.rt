@@ -36,10 +36,10 @@ fn is_all(d: Diagnostic, word: i32) -> bool {
         & (d.end == word)
 }
 
-// d1 to d19, with the kinds of its place and value, and a place; the kind of its value decides on the last two.
+// d1 to d20, with the kinds of its place and value, and a place; the kind of its value decides on the last two.
 fn is_diagnostic(d: Diagnostic) -> bool {
     (0 < d.number)
-        & (d.number < 20)
+        & (d.number < 21)
         & (0 < d.place_kind)
         & (0 < d.place)
         & (0 < d.value_kind)

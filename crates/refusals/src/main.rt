@@ -24,10 +24,10 @@ use table::make_text;
 // A text has at most so many bytes: more than are read.
 const TEXT: usize = 65600;
 
-// Lent at most: 40,000 notes, 100 bars, 1,000 notes of a figure. Many more notes don't fit a program's stack.
+// Lent at most: 40,000 notes, 1,000 bars, 1,000 notes of a figure. Many more notes don't fit a program's stack.
 const NOTES: usize = 40000 * NOTE;
 
-const BARS: usize = 100 * BAR;
+const BARS: usize = 1000 * BAR;
 
 const FIGURE: usize = 1000 * NOTE;
 

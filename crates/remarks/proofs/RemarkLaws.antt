@@ -85,6 +85,8 @@ module _
   remarks-agree b (t.Letter step) closes = refl
   remarks-agree b t.Chord closes = refl
   remarks-agree b t.Rest closes = refl
+  remarks-agree b (t.WholeBars count) closes = refl
+  remarks-agree b t.BadCount closes = refl
   remarks-agree b (t.Barline barline) closes = refl
   remarks-agree b (t.Grace slashed) closes = refl
   remarks-agree b (t.GraceGroup begins) closes = rw (voiced .group)
@@ -92,5 +94,4 @@ module _
   remarks-agree b (t.Marking marking) closes = markings-agree marking (λ e. closes (ap t.Marking e))
   remarks-agree b t.Blank closes = refl
   remarks-agree b t.Colon closes = refl
-  remarks-agree b t.MeasureRest closes = refl
   remarks-agree b t.Unknown closes = refl

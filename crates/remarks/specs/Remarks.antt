@@ -109,7 +109,7 @@ markingFound marking value st ends closing x = elim marking [
   | m.Trill ↦ unless (hasContent (st .counts)) (whole 14 x)
 ]
 
--- `r` outside a `qq` group, d15; a lone `:`, d9; a token without a rule, d15.
+-- a bad count of `=`, d20; `r` outside a `qq` group, d15; a lone `:`, d9; a token without a rule, d15.
 -- value: the bytes after the token's first; ends: the open bar ends in a note; closing: what an open group closes to
 abbrev pub tokenFound : Token → List ℕ → Pae → Bool → Closing → rules.Item → List Diagnostic
 tokenFound token value st ends closing x = let content = hasContent (st .counts) in elim token [
@@ -122,6 +122,8 @@ tokenFound token value st ends closing x = let content = hasContent (st .counts)
   | t.Letter step ↦ []
   | t.Chord ↦ []
   | t.Rest ↦ []
+  | t.WholeBars count ↦ []
+  | t.BadCount ↦ after 20 x ∷ []
   | t.Barline barline ↦ []
   | t.Grace slashed ↦ []
   | t.GraceGroup begins ↦ unless (begins || st .voice .group) (whole 15 x)
@@ -129,6 +131,5 @@ tokenFound token value st ends closing x = let content = hasContent (st .counts)
   | t.Marking marking ↦ markingFound marking value st ends closing x
   | t.Blank ↦ []
   | t.Colon ↦ whole 9 x ∷ []
-  | t.MeasureRest ↦ []
   | t.Unknown ↦ whole 15 x ∷ []
 ]

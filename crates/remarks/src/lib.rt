@@ -61,7 +61,7 @@ pub fn whole(d: u8, span: Span) -> Found
 }
 
 // With the text after its first byte.
-fn after_first(d: u8, span: Span) -> Found
+pub fn after_first(d: u8, span: Span) -> Found
     requires { ⌜ SpanFits span ⌝ }
     ensures { λ r. ⌜ foundIn r ≡ map diagnosticWords (after d (itemIn span) ∷ []) ⌝ }
 {

@@ -5,17 +5,18 @@ use mathlib.Core.Bool.{not}
 use lib.Dec.{T, eqb}
 use mathlib.Core.Path.{_≡_, refl, ap}
 use mathlib.Core.Logic.{_⊎_, inl, inr}
+use mathlib.Core.Option.{some}
 use mathlib.Core.List.{List, [], _∷_, _++_}
 use lib.IntN.{ℤ, pos}
 use Rattle.rules.specs.Limits.{noteSize}
 use Rattle.rules.specs.Text.{bytes}
 use Rattle.rules.specs.Characters.{characterSize, codePoint, isBlank}
 use Rattle.rules.specs.Cut.{tokenSize}
-use Rattle.rules.specs.Tokens.{Item, letter, tokenOf, itemAt, itemsAfter}
+use Rattle.rules.specs.Tokens.{Item, letter, other, wholeBars, tokenOf, itemAt, itemsAfter}
 use Rattle.rules.specs.Fields.{linesAfter, fieldsAfter, fieldsOf}
 use Rattle.rules.specs.Rules.{step, stateAfter}
 use Rattle.rules.specs.Words.{zeros, padded}
-use Rattle.rules.specs.Values.{patternOf}
+use Rattle.rules.specs.Values.{patternOf, wholeBarsOf}
 use Rattle.rules.specs.Stored.{natural, StoredHeading}
 use Rattle.rules.specs.Agreement.{Demand3}
 
@@ -53,11 +54,13 @@ pub record Cheats : Type 0 where
   pub slashed-kind : Demand3 (bytes "gC") 1 (noteAt 2 2 5 1 (pitch 2 0)) → ⊥
   -- an eighth without a digit token
   pub default : Demand3 (bytes "C") 1 (noteAt 1 0 5 1 (pitch 1 0)) → ⊥
+  -- a whole-bar rest with a rest's kind
+  pub whole-bar-kind : Demand3 (bytes "=") 1 (noteAt 1 1 0 0 []) → ⊥
   -- a note count invented
   pub count : Demand3 (bytes "C") 2 (noteAt 1 0 4 1 (pitch 1 0) ++ zeros noteSize) → ⊥
 
 pub cheats : Cheats
-unfolding characterSize codePoint isBlank tokenSize tokenOf itemAt itemsAfter linesAfter fieldsAfter fieldsOf patternOf stateAfter step
+unfolding characterSize codePoint isBlank tokenSize tokenOf itemAt itemsAfter linesAfter fieldsAfter fieldsOf patternOf wholeBarsOf stateAfter step
 cheats = record {
   blank = λ d. neither (d .agrees .everyLetter (record { later = []; item = letterAt 1 0; before = []; step = 0; stands = refl; isLetter = refl }));
   step = λ d. differ 0 1 tt (ap (λ q. natural (q .step)) (sole (d .agrees .everyLetter (record { later = []; item = letterAt 1 1; before = []; step = 1; stands = refl; isLetter = refl }))));
@@ -67,6 +70,7 @@ cheats = record {
   slashed-length = λ d. differ 4 5 tt (ap (firstOf (λ h. h .duration)) (d .agrees .opening (record { later = []; item = letterAt 2 0; before = _; step = 0; stands = refl; isLetter = refl })));
   slashed-kind = λ d. differ 2 3 tt (ap (firstOf (λ h. h .kind)) (d .agrees .opening (record { later = []; item = letterAt 2 0; before = _; step = 0; stands = refl; isLetter = refl })));
   default = λ d. differ 5 4 tt (ap (firstOf (λ h. h .duration)) (d .agrees .opening (record { later = []; item = letterAt 1 0; before = []; step = 0; stands = refl; isLetter = refl })));
+  whole-bar-kind = λ d. differ 1 4 tt (ap (firstOf (λ h. h .kind)) (d .agrees .wholeBars [] (record { place = 1; offset = 0; size = 1; token = other (wholeBars (some 1)) }) [] refl refl));
   count = λ d. differ 2 1 tt (d .counted);
 }
   where

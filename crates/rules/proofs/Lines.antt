@@ -1,7 +1,8 @@
--- 01's 'Lines to prove, lines to dodge', over the bytes, as one statement; lines for its mistakes to rule out; lines of characters (02, R-1); and lines for slips in single rules.
+-- 01's 'Lines to prove, lines to dodge', over the bytes, as one statement; lines for its mistakes to rule out; lines of characters (02, R-1) and of whole-bar rests (R-2); and lines for slips in single rules.
 -- Each holds for every lent size that suffices. Assumes nothing.
 use Prim.Native.Nat.{ℕ, zero, suc, _*_, _≤_}
 use mathlib.Core.Path.{_≡_, refl, ap}
+use mathlib.Core.Option.{some}
 use mathlib.Core.List.{List, [], _∷_, _++_}
 use lib.IntN.{ℤ, pos, negℤ}
 use lib.ListN.{take, drop, getD}
@@ -9,7 +10,7 @@ use Rattle.rules.specs.Limits.{pitchSize, firstPitch, noteSize, barSize,
 use Rattle.rules.specs.Text.{bytes}
 use Rattle.rules.specs.Characters.{formedSize, formedAfter, characterSize, charactersIn, codePoint, isBlank, nonBlanksSize}
 use Rattle.rules.specs.Cut.{tokenSize}
-use Rattle.rules.specs.Values.{clefOf, keyOf, meterOf, countOf, patternOf}
+use Rattle.rules.specs.Values.{clefOf, keyOf, meterOf, countOf, wholeBarsOf, patternOf}
 use Rattle.rules.specs.Tokens.{tokenOf, itemAt, itemsAfter}
 use Rattle.rules.specs.Records.{given}
 use Rattle.rules.specs.Rules.{step, stateAfter}
@@ -67,6 +68,9 @@ markCounts = column 8
 abbrev pitchCounts : Reading → List ℤ
 pitchCounts = column 10
 
+abbrev barNumbers : Reading → List ℤ
+barNumbers = column 11
+
 -- of each note's first pitch
 abbrev steps : Reading → List ℤ
 steps = column 13
@@ -86,6 +90,12 @@ clefs = barColumn 2
 
 abbrev fifths : Reading → List ℤ
 fifths = barColumn 4
+
+abbrev lefts : Reading → List ℤ
+lefts = barColumn 8
+
+abbrev rights : Reading → List ℤ
+rights = barColumn 9
 
 -- the words of each of the n records of `size` words
 abbrev records : ℕ → List ℤ → ℕ → List (List ℤ)
@@ -147,11 +157,12 @@ pub record Lines : Type 0 where
   pub too-few : (lent : Lent) → Suffices 2 1 0 lent → diagnosed (reading (bytes "(CD;2)") lent) ≡ these (11 ∷ 3 ∷ 6 ∷ 3 ∷ 2 ∷ 0 ∷ []) ∷ []
   -- `@c:C` refused 5
   pub no-data : (lent : Lent) → Suffices 0 0 0 lent → outcome (reading (bytes "@c:C") lent) ≡ 5 ∷ 0 ∷ []
-  -- `C=` refused 6 at 2
-  pub whole-bar-rest : (lent : Lent) → Suffices 1 0 0 lent → outcome (reading (bytes "C=") lent) ≡ 6 ∷ 2 ∷ []
+  -- `C=` two records, kinds 0 and 4, in one bar
+  pub whole-bar : (lent : Lent) → Suffices 2 1 0 lent → kinds (reading (bytes "C=") lent) ≡ these (0 ∷ 4 ∷ [])
+  pub whole-bar-bars : (lent : Lent) → Suffices 2 1 0 lent → reading (bytes "C=") lent .bars ≡ 1
 
 pub lines : Lines
-unfolding formedSize formedAfter characterSize charactersIn codePoint isBlank nonBlanksSize tokenSize clefOf keyOf meterOf countOf patternOf tokenOf itemAt itemsAfter step stateAfter dataDiagnosed linesAfter fieldsAfter linesDiagnosed fieldsOf fieldsDiagnosed tokensRefusal refusalOf
+unfolding formedSize formedAfter characterSize charactersIn codePoint isBlank nonBlanksSize tokenSize clefOf keyOf meterOf countOf wholeBarsOf patternOf tokenOf itemAt itemsAfter step stateAfter dataDiagnosed linesAfter fieldsAfter linesDiagnosed fieldsOf fieldsDiagnosed tokensRefusal refusalOf
 lines = record {
   sharp = λ lent h. ap alterations (reads _ h tt);
   sharp-waits = λ lent h. ap alterations (reads _ h tt);
@@ -170,7 +181,8 @@ lines = record {
   tuplet-normal = λ lent h. ap normals (reads _ h tt);
   too-few = λ lent h. ap diagnosed (reads _ h tt);
   no-data = λ lent h. ap outcome (reads _ h tt);
-  whole-bar-rest = λ lent h. ap outcome (reads _ h tt);
+  whole-bar = λ lent h. ap kinds (reads _ h tt);
+  whole-bar-bars = λ lent h. ap (λ r. r .bars) (reads _ h tt);
 }
 
 -- ---- the mistakes to rule out
@@ -196,7 +208,7 @@ pub record Mistakes : Type 0 where
   pub clef : (lent : Lent) → Suffices 1 1 0 lent → clefs (reading (bytes "@data:C" ++ 10 ∷ bytes "@clef:F-4") lent) ≡ these (3 ∷ [])
 
 pub mistakes : Mistakes
-unfolding formedSize formedAfter characterSize charactersIn codePoint isBlank nonBlanksSize tokenSize clefOf keyOf meterOf countOf patternOf tokenOf itemAt itemsAfter step stateAfter dataDiagnosed linesAfter fieldsAfter linesDiagnosed fieldsOf fieldsDiagnosed tokensRefusal refusalOf
+unfolding formedSize formedAfter characterSize charactersIn codePoint isBlank nonBlanksSize tokenSize clefOf keyOf meterOf countOf wholeBarsOf patternOf tokenOf itemAt itemsAfter step stateAfter dataDiagnosed linesAfter fieldsAfter linesDiagnosed fieldsOf fieldsDiagnosed tokensRefusal refusalOf
 mistakes = record {
   sign-rest = λ lent h. ap alterations (reads _ h tt);
   slash-rest = λ lent h. ap kinds (reads _ h tt);
@@ -269,7 +281,7 @@ unfolding formedSize formedAfter characterSize charactersIn codePoint isBlank no
 no-bar-lent = refl
 
 pub characters : Characters
-unfolding formedSize formedAfter characterSize charactersIn codePoint isBlank nonBlanksSize tokenSize clefOf keyOf meterOf countOf patternOf tokenOf itemAt itemsAfter step stateAfter dataDiagnosed linesAfter fieldsAfter linesDiagnosed fieldsOf fieldsDiagnosed tokensRefusal refusalOf
+unfolding formedSize formedAfter characterSize charactersIn codePoint isBlank nonBlanksSize tokenSize clefOf keyOf meterOf countOf wholeBarsOf patternOf tokenOf itemAt itemsAfter step stateAfter dataDiagnosed linesAfter fieldsAfter linesDiagnosed fieldsOf fieldsDiagnosed tokensRefusal refusalOf
 characters = record {
   unknown = λ lent h. ap diagnosed (reads _ h tt);
   unknown-place = λ lent h. ap places (reads _ h tt);
@@ -288,6 +300,103 @@ characters = record {
   beyond = λ lent h. ap outcome (reads _ h tt);
   cut-off = λ lent h. ap outcome (reads _ h tt);
   unread = λ lent h. ap outcome (reads _ h tt);
+}
+
+-- ---- whole-bar rests (02, R-2)
+
+-- what `C=3` comes to, with so many note and bar records lent
+abbrev turned : ℕ → ℕ → List ℕ
+turned notes bars = outcome (reading (bytes "C=3") (record { notes = notes * noteSize; bars = bars * barSize; figure = 0; diagnostics = diagnosticLimit }))
+
+pub record WholeBars : Type 0 where
+  -- `=3`: three records of kind 4, duration, dots and pitch count 0, the `=` token's place, a bar each
+  pub three : (lent : Lent) → Suffices 3 3 0 lent → kinds (reading (bytes "=3") lent) ≡ these (4 ∷ 4 ∷ 4 ∷ [])
+  pub three-places : (lent : Lent) → Suffices 3 3 0 lent → places (reading (bytes "=3") lent) ≡ these (1 ∷ 1 ∷ 1 ∷ [])
+  pub three-durations : (lent : Lent) → Suffices 3 3 0 lent → durations (reading (bytes "=3") lent) ≡ these (0 ∷ 0 ∷ 0 ∷ [])
+  pub three-dots : (lent : Lent) → Suffices 3 3 0 lent → dots (reading (bytes "=3") lent) ≡ these (0 ∷ 0 ∷ 0 ∷ [])
+  pub three-pitches : (lent : Lent) → Suffices 3 3 0 lent → pitchCounts (reading (bytes "=3") lent) ≡ these (0 ∷ 0 ∷ 0 ∷ [])
+  pub three-bars : (lent : Lent) → Suffices 3 3 0 lent → barNumbers (reading (bytes "=3") lent) ≡ these (1 ∷ 2 ∷ 3 ∷ [])
+  -- the first goes into the open bar, no barline stands behind the last; the barlines between them are normal
+  pub between : (lent : Lent) → Suffices 4 2 0 lent → barNumbers (reading (bytes "C=2D") lent) ≡ these (1 ∷ 1 ∷ 2 ∷ 2 ∷ [])
+  pub normal-right : (lent : Lent) → Suffices 3 2 0 lent → rights (reading (bytes "C=2//") lent) ≡ these (0 ∷ 1 ∷ [])
+  pub normal-left : (lent : Lent) → Suffices 2 2 0 lent → lefts (reading (bytes "//:=2") lent) ≡ these (2 ∷ 0 ∷ [])
+  -- they clear accidentals, `=` alone has none; a sign waits past them
+  pub clears : (lent : Lent) → Suffices 4 2 0 lent → alterations (reading (bytes "xC=2C") lent) ≡ these (1 ∷ 0 ∷ 0 ∷ 0 ∷ [])
+  pub alone : (lent : Lent) → Suffices 3 1 0 lent → alterations (reading (bytes "xC=C") lent) ≡ these (1 ∷ 0 ∷ 1 ∷ [])
+  pub waits : (lent : Lent) → Suffices 3 2 0 lent → alterations (reading (bytes "x=2C") lent) ≡ these (0 ∷ 0 ∷ 1 ∷ [])
+  -- a rest for chords and `+`; it cancels no tie
+  pub chord : (lent : Lent) → Suffices 3 1 0 lent → kinds (reading (bytes "C^=D") lent) ≡ these (0 ∷ 4 ∷ 0 ∷ [])
+  pub no-tie : (lent : Lent) → Suffices 1 1 0 lent → diagnosed (reading (bytes "=+") lent) ≡ these (16 ∷ 3 ∷ 2 ∷ 1 ∷ 1 ∷ 2 ∷ []) ∷ []
+  pub tie : (lent : Lent) → Suffices 3 1 0 lent → ties (reading (bytes "C+=D") lent) ≡ these (1 ∷ 0 ∷ 2 ∷ [])
+  pub tie-on : (lent : Lent) → Suffices 4 2 0 lent → ties (reading (bytes "C+=2D") lent) ≡ these (1 ∷ 0 ∷ 0 ∷ 2 ∷ [])
+  -- and for groups: a fermata, a tuplet
+  pub fermata : (lent : Lent) → Suffices 1 1 0 lent → markCounts (reading (bytes "(=)") lent) ≡ these (1 ∷ [])
+  pub tuplet : (lent : Lent) → Suffices 3 1 0 lent → actuals (reading (bytes "(C=D)") lent) ≡ these (3 ∷ 3 ∷ 3 ∷ [])
+  -- the bar has a note: `=$xFF` is d3
+  pub mid-bar : (lent : Lent) → Suffices 1 1 0 lent → diagnosed (reading (bytes "=$xFF") lent) ≡ these (3 ∷ 3 ∷ 2 ∷ 1 ∷ 2 ∷ 5 ∷ []) ∷ []
+  pub mid-bar-further : (lent : Lent) → Suffices 2 2 0 lent → diagnosed (reading (bytes "=2$xFF") lent) ≡ these (3 ∷ 3 ∷ 3 ∷ 1 ∷ 3 ∷ 6 ∷ []) ∷ []
+  -- it doesn't step the pattern: 8th, 16th
+  pub pattern : (lent : Lent) → Suffices 3 1 0 lent → durations (reading (bytes "86C=D") lent) ≡ these (5 ∷ 0 ∷ 6 ∷ [])
+  -- `^`, `g`, `q` wait past it, a `qq` group stays open, the key stays
+  pub caret-waits : (lent : Lent) → Suffices 3 1 1 lent → pitchCounts (reading (bytes "!C!^=fD") lent) ≡ these (1 ∷ 0 ∷ 2 ∷ [])
+  pub grace-waits : (lent : Lent) → Suffices 2 1 0 lent → kinds (reading (bytes "g=C") lent) ≡ these (4 ∷ 3 ∷ [])
+  pub group-stays : (lent : Lent) → Suffices 2 1 0 lent → kinds (reading (bytes "qq=C") lent) ≡ these (4 ∷ 2 ∷ [])
+  pub key-stays : (lent : Lent) → Suffices 2 1 0 lent → alterations (reading (bytes "$xF=F") lent) ≡ these (0 ∷ 1 ∷ [])
+  -- a bad count is d20 with the digits, and stores nothing; leading zeros are none
+  pub bad : (lent : Lent) → Suffices 1 1 0 lent → diagnosed (reading (bytes "C=1001") lent) ≡ these (20 ∷ 3 ∷ 2 ∷ 1 ∷ 2 ∷ 6 ∷ []) ∷ []
+  pub bad-kinds : (lent : Lent) → Suffices 1 1 0 lent → kinds (reading (bytes "C=1001") lent) ≡ these (0 ∷ [])
+  pub none-left : (lent : Lent) → Suffices 0 0 0 lent → outcome (reading (bytes "=0") lent) ≡ 13 ∷ 0 ∷ []
+  pub none-diagnosed : (lent : Lent) → Suffices 0 0 0 lent → diagnosed (reading (bytes "=0") lent) ≡ []
+  pub leading-zero : (lent : Lent) → Suffices 2 2 0 lent → kinds (reading (bytes "=02") lent) ≡ these (4 ∷ 4 ∷ [])
+  -- copies keep kind 4, of the last bar and of a figure
+  pub copied-bar : (lent : Lent) → Suffices 3 3 0 lent → kinds (reading (bytes "=2/i") lent) ≡ these (4 ∷ 4 ∷ 4 ∷ [])
+  pub copied-figure : (lent : Lent) → Suffices 2 1 1 lent → kinds (reading (bytes "!=!f") lent) ≡ these (4 ∷ 4 ∷ [])
+  -- 1,000 is the most
+  pub most : wholeBarsOf (bytes "1000") ≡ some 1000
+  -- records and barlines are checked in turn, all at the token's place; then the end: `C=3` with so many notes and bars lent
+  pub checked : turned 1 3 ∷ turned 2 0 ∷ turned 2 1 ∷ turned 3 1 ∷ turned 3 2 ∷ turned 4 2 ∷ [] ≡ (8 ∷ 2 ∷ []) ∷ (12 ∷ 2 ∷ []) ∷ (8 ∷ 2 ∷ []) ∷ (12 ∷ 2 ∷ []) ∷ (8 ∷ 2 ∷ []) ∷ (12 ∷ 4 ∷ []) ∷ []
+
+turned-all : turned 1 3 ∷ turned 2 0 ∷ turned 2 1 ∷ turned 3 1 ∷ turned 3 2 ∷ turned 4 2 ∷ [] ≡ (8 ∷ 2 ∷ []) ∷ (12 ∷ 2 ∷ []) ∷ (8 ∷ 2 ∷ []) ∷ (12 ∷ 2 ∷ []) ∷ (8 ∷ 2 ∷ []) ∷ (12 ∷ 4 ∷ []) ∷ []
+unfolding formedSize formedAfter characterSize charactersIn codePoint isBlank nonBlanksSize tokenSize wholeBarsOf tokenOf itemAt itemsAfter step stateAfter linesAfter fieldsAfter fieldsOf tokensRefusal refusalOf reading
+turned-all = refl
+
+pub whole-bars : WholeBars
+unfolding formedSize formedAfter characterSize charactersIn codePoint isBlank nonBlanksSize tokenSize clefOf keyOf meterOf countOf wholeBarsOf patternOf tokenOf itemAt itemsAfter step stateAfter dataDiagnosed linesAfter fieldsAfter linesDiagnosed fieldsOf fieldsDiagnosed tokensRefusal refusalOf
+whole-bars = record {
+  three = λ lent h. ap kinds (reads _ h tt);
+  three-places = λ lent h. ap places (reads _ h tt);
+  three-durations = λ lent h. ap durations (reads _ h tt);
+  three-dots = λ lent h. ap dots (reads _ h tt);
+  three-pitches = λ lent h. ap pitchCounts (reads _ h tt);
+  three-bars = λ lent h. ap barNumbers (reads _ h tt);
+  between = λ lent h. ap barNumbers (reads _ h tt);
+  normal-right = λ lent h. ap rights (reads _ h tt);
+  normal-left = λ lent h. ap lefts (reads _ h tt);
+  clears = λ lent h. ap alterations (reads _ h tt);
+  alone = λ lent h. ap alterations (reads _ h tt);
+  waits = λ lent h. ap alterations (reads _ h tt);
+  chord = λ lent h. ap kinds (reads _ h tt);
+  no-tie = λ lent h. ap diagnosed (reads _ h tt);
+  tie = λ lent h. ap ties (reads _ h tt);
+  tie-on = λ lent h. ap ties (reads _ h tt);
+  fermata = λ lent h. ap markCounts (reads _ h tt);
+  tuplet = λ lent h. ap actuals (reads _ h tt);
+  mid-bar = λ lent h. ap diagnosed (reads _ h tt);
+  mid-bar-further = λ lent h. ap diagnosed (reads _ h tt);
+  pattern = λ lent h. ap durations (reads _ h tt);
+  caret-waits = λ lent h. ap pitchCounts (reads _ h tt);
+  grace-waits = λ lent h. ap kinds (reads _ h tt);
+  group-stays = λ lent h. ap kinds (reads _ h tt);
+  key-stays = λ lent h. ap alterations (reads _ h tt);
+  bad = λ lent h. ap diagnosed (reads _ h tt);
+  bad-kinds = λ lent h. ap kinds (reads _ h tt);
+  none-left = λ lent h. ap outcome (reads _ h tt);
+  none-diagnosed = λ lent h. ap diagnosed (reads _ h tt);
+  leading-zero = λ lent h. ap kinds (reads _ h tt);
+  copied-bar = λ lent h. ap kinds (reads _ h tt);
+  copied-figure = λ lent h. ap kinds (reads _ h tt);
+  most = refl;
+  checked = turned-all;
 }
 
 -- ---- single rules
@@ -333,7 +442,7 @@ pub record Slips : Type 0 where
   pub nine-marks : (lent : Lent) → Suffices 1 0 0 lent → outcome (reading (bytes "Cttttttttt") lent) ≡ 10 ∷ 10 ∷ []
 
 pub slips : Slips
-unfolding formedSize formedAfter characterSize charactersIn codePoint isBlank nonBlanksSize tokenSize clefOf keyOf meterOf countOf patternOf tokenOf itemAt itemsAfter step stateAfter dataDiagnosed linesAfter fieldsAfter linesDiagnosed fieldsOf fieldsDiagnosed tokensRefusal refusalOf
+unfolding formedSize formedAfter characterSize charactersIn codePoint isBlank nonBlanksSize tokenSize clefOf keyOf meterOf countOf wholeBarsOf patternOf tokenOf itemAt itemsAfter step stateAfter dataDiagnosed linesAfter fieldsAfter linesDiagnosed fieldsOf fieldsDiagnosed tokensRefusal refusalOf
 slips = record {
   fresh-octave = λ lent h. ap octaves (reads _ h tt);
   fresh-length = λ lent h. ap durations (reads _ h tt);

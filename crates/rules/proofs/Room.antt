@@ -1,5 +1,5 @@
 -- More room changes no answer but a refusal for want of room. Assumes nothing.
-use Prim.Native.Nat.{ℕ, suc, _+_, _-_, _*_, _≤_}
+use Prim.Native.Nat.{ℕ, zero, suc, _+_, _-_, _*_, _≤_}
 use native.Mathlib.Omega.{arith}
 use mir.Facts.{leb-yes, yes-leb}
 use mathlib.Core.Path.{_≡_, refl, ap}
@@ -14,9 +14,9 @@ use Rattle.rules.specs.Text.{among}
 use Rattle.rules.specs.Characters.{charactersIn}
 use Rattle.rules.specs.Tokens.{Figure, figureMark, figureRepeat, barRepeat, figureIn, isBarline, Token, Item}
 use Rattle.rules.specs.Records.{_or_, given, isEmpty}
-use Rattle.rules.specs.Rules.{State, Attributes, stateAfter, stores, stored}
+use Rattle.rules.specs.Rules.{State, Attributes, step, furtherBars, innerBarline, inTurn, stateAfter, stores, stored}
 use Rattle.rules.specs.Fields.{dataOf}
-use Rattle.rules.specs.Refusals.{LentRecords, Refusal, refusal, Check, firstFailing, textChecks, textRefusal, overFigure, overBars, tokenChecks, tokenRefusal, tokensRefusal, endRefusal, refusalOf}
+use Rattle.rules.specs.Refusals.{LentRecords, Refusal, refusal, Check, firstFailing, textChecks, textRefusal, overFigure, overBars, tokenChecks, tokenRefusal, refusalAt, refusalInTurn, tokensRefusal, endRefusal, refusalOf}
 use Rattle.rules.specs.Reading.{Lent, lentRecords, attributesOf, tokensOf, accepted, refused, reading}
 
 -- ---- refusals for want of room
@@ -116,12 +116,21 @@ module _ (less more : LentRecords) (w : Within less more) where
       let notes = eases-and (ltb 0 added) (eases-ltb (length (stored s) + added) (w .notes)) in
       let figure = eases-given (figureIn t) (figure-eased s) in
       let bars = eases-and (isBarline t) (bars-eased s) in
-      failing-kept (tokenChecks less t s) (tokenChecks more t s) (inl refl, (inl refl, (inr (tt, notes), (inl refl, (inl refl, (inr (tt, figure), (inr (tt, bars), tt)))))))
+      failing-kept (tokenChecks less t s) (tokenChecks more t s) (inl refl, (inr (tt, notes), (inl refl, (inl refl, (inr (tt, figure), (inr (tt, bars), tt))))))
+
+  at-kept : (x : Item) (s : State) → Kept (λ r. r .number) (refusalAt less x s) (refusalAt more x s)
+  at-kept x s = at-place (x .place) (token-kept (x .token) s)
+
+  turn-kept : (x : Item) (further : ℕ) (s : State) → Kept (λ r. r .number) (refusalInTurn less x further s) (refusalInTurn more x further s)
+  turn-kept x zero s = at-kept x s
+  turn-kept x (suc further) s =
+      let t = inTurn x further s in
+      kept-or (λ r. r .number) (turn-kept x further s) (kept-or (λ r. r .number) (at-kept (innerBarline x) t) (at-kept x (step (innerBarline x) t)))
 
   tokens-kept : (k : Attributes) (all : List Item) → Kept (λ r. r .number) (tokensRefusal less k all) (tokensRefusal more k all)
   unfolding tokensRefusal
   tokens-kept k [] = record { kept = λ h. refl }
-  tokens-kept k (x ∷ before) = kept-or (λ r. r .number) (tokens-kept k before) (at-place (x .place) (token-kept (x .token) (stateAfter k before)))
+  tokens-kept k (x ∷ before) = kept-or (λ r. r .number) (tokens-kept k before) (turn-kept x (furtherBars (x .token)) (stateAfter k before))
 
   end-kept : (size : ℕ) (s : State) → Kept (λ r. r .number) (endRefusal less size s) (endRefusal more size s)
   end-kept size s = kept-eased (λ r. r .number) (refusal 12 (size + 1)) (refusal 12 (size + 1)) tt (overBars less s) (overBars more s) (bars-eased s) (record { kept = λ h. refl })

@@ -1,12 +1,12 @@
 -- Demand 3: what stands in the note cells and the look-back agree on every letter (01, 'The look-back'). Assumes nothing.
 use Prim.Native.Nat.{ℕ, _+_, _-_}
 use mathlib.Core.Path.{_≡_}
-use mathlib.Core.Bool.{Bool, false, _&&_, _||_}
+use mathlib.Core.Bool.{Bool, true, false, _&&_, _||_}
 use mathlib.Core.Logic.{_⊎_}
 use mathlib.Core.Option.{some}
 use mathlib.Core.List.{List, [], _∷_, _++_, map}
 use lib.IntN.{ℤ, pos}
-use lib.ListN.{length, take}
+use lib.ListN.{length, take, replicate}
 use Rattle.rules.specs.Text.{bytes, if_then_else_, begins, Part}
 use Rattle.rules.specs.Characters.{charactersIn}
 use Rattle.rules.specs.Tokens.{Item}
@@ -14,7 +14,7 @@ use Rattle.rules.specs.Fields.{dataOf}
 use Rattle.rules.specs.Rules.{Attributes}
 use Rattle.rules.specs.Reading.{attributesOf, tokensOf}
 use Rattle.rules.specs.Stored.{isPlace, StoredPitch, StoredHeading, StoredNote, notesIn}
-use Rattle.rules.specs.LookBack.{count, never, keep, textOf, letterOf, isDash, isOpening, backOctave, backAlter, backJoins, backKind, backLength}
+use Rattle.rules.specs.LookBack.{count, never, keep, textOf, letterOf, isDash, wholeBarRests, isOpening, backOctave, backAlter, backJoins, backKind, backLength}
 
 -- P of each element
 abbrev pub All : {A : Type 0} → (A → Type 0) → List A → Type 0
@@ -62,6 +62,15 @@ openedLetters k line all = count never (isOpening k line) all
 abbrev pub restTokens : Part → List Item → ℕ
 restTokens line all = count never (λ x before. isDash (textOf line x)) all
 
+-- the whole-bar rests of the `=` tokens
+abbrev pub wholeBarsStored : Part → List Item → ℕ
+wholeBarsStored line [] = 0
+wholeBarsStored line (x ∷ before) = wholeBarRests (textOf line x) + wholeBarsStored line before
+
+-- a whole-bar rest's heading: kind 4, duration and dots 0, the `=` token's place
+abbrev pub wholeBarHeading : ℕ → StoredHeading
+wholeBarHeading place = record { place = pos place; kind = pos 4; duration = pos 0; dots = pos 0 }
+
 -- ---- of the fields' attributes, the data and its tokens
 
 module _ (k : Attributes) (line : Part) (all : List Item) where
@@ -89,6 +98,9 @@ module _ (k : Attributes) (line : Part) (all : List Item) where
     pub onePlace : (l m : Letter line all) → l .item .place ≡ m .item .place → (l .later ≡ m .later) × (l .item ≡ m .item) × (l .before ≡ m .before)
     -- a letter joins a chord exactly when the look-back says so, and else opens just one record, with the looked-back kind, duration and dots
     pub opening : (l : Letter line all) → headingsAt (l .item .place) notes ≡ (if backJoins k line (l .before) then [] else openedBack l ∷ [])
+    -- an `=` token stores as many whole-bar rests as it counts
+    pub wholeBars : (later : List Item) (x : Item) (before : List Item) → all ≡ later ++ x ∷ before → begins (bytes "=") (textOf line x) ≡ true
+        → headingsAt (x .place) notes ≡ replicate (wholeBarRests (textOf line x)) (wholeBarHeading (x .place))
 
 -- ---- of a text
 
@@ -102,5 +114,5 @@ pub record Demand3 (text : List ℕ) (count : ℕ) (cells : List ℤ) : Type 0 w
   pub placed : All (Placed (dataOf text)) (tokensOf text)
   -- the first records, as counted, agree with the look-back
   pub agrees : Agreement (attributesOf text) (dataOf text) (tokensOf text) (notesIn cells count)
-  -- the note count is opened letters plus rests plus copies
-  pub counted : let line = dataOf text in let all = tokensOf text in count ≡ openedLetters (attributesOf text) line all + restTokens line all + length (copiesIn line all (notesIn cells count))
+  -- the note count is opened letters plus rests plus whole-bar rests plus copies
+  pub counted : let line = dataOf text in let all = tokensOf text in count ≡ openedLetters (attributesOf text) line all + restTokens line all + wholeBarsStored line all + length (copiesIn line all (notesIn cells count))

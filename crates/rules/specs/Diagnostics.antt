@@ -1,4 +1,4 @@
--- What is diagnosed, d1 to d19 (01, 'Fields and attributes' to 'Groups and marks'); the latest first. Assumes nothing.
+-- What is diagnosed, d1 to d20 (01, 'Fields and attributes' to 'Groups and marks'); the latest first. Assumes nothing.
 use Prim.Native.Nat.{ℕ, _+_}
 use mathlib.Core.Bool.{Bool, not, _&&_, _||_}
 use mathlib.Core.Option.{Option}
@@ -7,7 +7,7 @@ use lib.ListN.{length}
 use lib.Dec.{leb, ltb}
 use Rattle.rules.specs.Text.{if_then_else_}
 use Rattle.rules.specs.Values.{Clef, Key, Meter}
-use Rattle.rules.specs.Tokens.{Figure, figureMark, figureRepeat, barRepeat, Marking, beamOpen, beamClose, groupOpen, groupClose, groupCount, tie, trill, Other, blank, colon, wholeBarRest, unknown, Token, clef, key, meter, octave, duration, accidental, letter, chord, rest, barline, grace, graceGroup, figure, marking, other, Item}
+use Rattle.rules.specs.Tokens.{Figure, figureMark, figureRepeat, barRepeat, Marking, beamOpen, beamClose, groupOpen, groupClose, groupCount, tie, trill, Other, blank, colon, unknown, wholeBars, Token, clef, key, meter, octave, duration, accidental, letter, chord, rest, barline, grace, graceGroup, figure, marking, other, Item}
 use Rattle.rules.specs.Records.{isSome, given, isEmpty, Position, atData, Value, textPart, parentheses, number, Diagnostic}
 use Rattle.rules.specs.Rules.{State, Attributes, Group, Closing, nothing, fermata, tuplet, tooFew, closingOf, endsInNote, stateAfter}
 
@@ -38,7 +38,7 @@ module _ (x : Item) where
   abbrev pub here : Position
   here = atData (x .place)
 
-  -- for `%`, `$`, `@`, `;` the text after the first byte, for other tokens all of it
+  -- for `%`, `$`, `@`, `;`, `=` the text after the first byte, for other tokens all of it
   abbrev pub afterFirst : Value
   afterFirst = textPart (x .offset + 1) (x .offset + x .size)
 
@@ -76,12 +76,12 @@ module _ (x : Item) where
   figureDiagnosed s figureRepeat = unless (not (isEmpty (s .figure))) (diagnostic 18 here allOfIt)
   figureDiagnosed s barRepeat = unless (isEmpty (s .openBar) && not (isEmpty (s .bars))) (diagnostic 19 here allOfIt)
 
-  -- a lone `:` is d9; a token without a rule is d15
+  -- a lone `:` is d9; a token without a rule is d15; a bad count is d20 with the digits
   abbrev pub otherDiagnosed : Other → List Diagnostic
   otherDiagnosed blank = []
   otherDiagnosed colon = diagnostic 9 here allOfIt ∷ []
-  otherDiagnosed wholeBarRest = []
   otherDiagnosed unknown = diagnostic 15 here allOfIt ∷ []
+  otherDiagnosed (wholeBars count) = unless (isSome count) (diagnostic 20 here afterFirst)
 
   -- an octave outside 0 to 9, d8; `r` outside a `qq` group, d15
   abbrev pub tokenDiagnosed : State → Token → List Diagnostic

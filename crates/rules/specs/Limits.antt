@@ -33,6 +33,10 @@ octaveLimit = 9
 abbrev pub countLimit : ℕ
 countLimit = 255
 
+-- an `=` counts 1 to 1,000 bars
+abbrev pub wholeBarLimit : ℕ
+wholeBarLimit = 1000
+
 -- a pitch has four words
 abbrev pub pitchSize : ℕ
 pitchSize = 4

@@ -3,15 +3,15 @@
 use Prim.Native.Nat.{ℕ, suc, _-_, _%_}
 use mathlib.Core.Bool.{Bool, true, false, not, _&&_, _||_}
 use mathlib.Core.Option.{Option, none, some, Option·getD}
-use mathlib.Core.List.{List, [], _∷_}
+use mathlib.Core.List.{List, [], _∷_, _++_}
 use lib.IntN.{ℤ, pos, negsuc}
 use lib.ListN.{length, take, drop, getD}
 use lib.Dec.{eqb, ltb}
 use Rattle.rules.specs.Text.{bytes, if_then_else_, begins, Part}
-use Rattle.rules.specs.Values.{Length}
+use Rattle.rules.specs.Values.{Length, wholeBarsOf}
 use Rattle.rules.specs.Tokens.{Item, octaveIn, durationIn, keyIn}
 use Rattle.rules.specs.Records.{_or_, isSome, given, isEmpty, Note}
-use Rattle.rules.specs.Rules.{Attributes, stateAfter, stored}
+use Rattle.rules.specs.Rules.{Attributes, wholeBarRest, stores, stateAfter}
 
 -- ---- three ways to look back; `stop` and `what` are told a token and those before it
 
@@ -89,6 +89,14 @@ isCaret text = begins (bytes "^") text
 abbrev pub isDash : List ℕ → Bool
 isDash text = begins (bytes "-") text
 
+-- how many whole-bar rests an `=` token stores: its count, 0 for a bad one and for other tokens
+abbrev pub wholeBarRests : List ℕ → ℕ
+wholeBarRests text = if begins (bytes "=") text then Option·getD (wholeBarsOf (drop 1 text)) 0 else 0
+
+-- a barline stands between two of them, so before its last one where there are two or more
+abbrev pub hasInnerBar : List ℕ → Bool
+hasInnerBar text = ltb 1 (wholeBarRests text)
+
 -- ---- octave and pattern
 
 -- the last in-range octave token before it, else 4
@@ -110,18 +118,13 @@ module _ (line : Part) where
   abbrev pub isLetter : Item → List Item → Bool
   isLetter x before = isSome (letterOf (textOf line x))
 
-  -- the place of the last barline token, 0 where there is none
-  abbrev pub lastBarline : List Item → ℕ
-  lastBarline [] = 0
-  lastBarline (x ∷ before) = if isBar (textOf line x) then x .place else lastBarline before
-
   -- the latest of the signs since the previous letter
   abbrev pub backAccidental : List Item → Option ℤ
   backAccidental before = latest isLetter (λ x b. signOf (textOf line x)) before
 
-  -- that of the last letter so marked, same step and octave, since the last barline token
+  -- that of the last letter so marked, same step and octave, since the last barline, inner ones too
   abbrev pub backMarked : ℕ → ℕ → List Item → Option ℤ
-  backMarked step octave before = latest (λ x b. isBar (textOf line x)) (λ x b. given (letterOf (textOf line x)) none (λ n. if eqb step n && eqb octave (backOctave b) then backAccidental b else none)) before
+  backMarked step octave before = latest (λ x b. isBar (textOf line x) || hasInnerBar (textOf line x)) (λ x b. given (letterOf (textOf line x)) none (λ n. if eqb step n && eqb octave (backOctave b) then backAccidental b else none)) before
 
   -- `^` since the previous letter
   abbrev pub backChord : List Item → Bool
@@ -131,17 +134,21 @@ module _ (line : Part) where
   abbrev pub inGraceGroup : List Item → Bool
   inGraceGroup before = Option·getD (latest never (λ x b. groupOf (textOf line x)) before) false
 
--- there is a last note and it is no rest
+-- there is a last note and it is no rest: neither of kind 1 nor a whole-bar rest, 4
 abbrev pub isNoRest : List Note → Bool
 isNoRest [] = false
-isNoRest (n ∷ ns) = not (eqb (n .heading .kind) 1)
+isNoRest (n ∷ ns) = not (eqb (n .heading .kind) 1 || eqb (n .heading .kind) 4)
 
 -- ---- key, chord, grace and length, from the fields' attributes and the data
 
 module _ (k : Attributes) (line : Part) where
-  -- the notes stored since the last barline, by their places
+  -- the notes stored since the last barline: what the tokens since then store; an inner barline stands before the last rest of its `=`
   abbrev pub sinceBarline : List Item → List Note
-  sinceBarline before = keep (λ n. ltb (lastBarline line before) (n .heading .place)) (stored (stateAfter k before))
+  sinceBarline [] = []
+  sinceBarline (x ∷ before) =
+      if isBar (textOf line x) then []
+      else if hasInnerBar (textOf line x) then wholeBarRest (x .place) ∷ []
+      else stores (x .place) (x .token) (stateAfter k before) ++ sinceBarline before
 
   -- the key last taken, a `$` being taken exactly when no stored note's place lies between the last barline and it; a keysig field comes before any `$`
   abbrev pub backKey : List Item → List ℤ

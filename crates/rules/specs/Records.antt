@@ -1,9 +1,10 @@
 -- What is stored: notes, bars, diagnostics (01, 'The lent records'); before them, four words about optional values and lists. Lists have the latest first. Assumes nothing.
 use Prim.Native.Nat.{ℕ}
-use mathlib.Core.Bool.{Bool, true, false}
+use mathlib.Core.Bool.{Bool, true, false, _||_}
 use mathlib.Core.Option.{Option, none, some}
 use mathlib.Core.List.{List, [], _∷_, _++_}
 use lib.IntN.{ℤ}
+use lib.Dec.{eqb}
 use Rattle.rules.specs.Values.{Meter}
 
 -- ---- optional values and lists
@@ -36,7 +37,7 @@ pub record Pitch : Type 0 where
   pub octave : ℕ
   pub alter : ℤ
 
--- the place of the storing token; kind (0 note, 1 rest, 2 grace, 3 slashed grace); duration; dots
+-- the place of the storing token; kind (0 note, 1 rest, 2 grace, 3 slashed grace, 4 whole-bar rest); duration; dots
 pub record Heading : Type 0 where
   pub place : ℕ
   pub kind : ℕ
@@ -57,6 +58,14 @@ pub record Note : Type 0 where
   pub heading : Heading
   pub pitches : List Pitch
   pub notations : Notations
+
+-- a rest, of either kind
+abbrev pub isRestKind : ℕ → Bool
+isRestKind kind = eqb kind 1 || eqb kind 4
+
+-- a grace, of either kind
+abbrev pub isGraceKind : ℕ → Bool
+isGraceKind kind = eqb kind 2 || eqb kind 3
 
 -- ---- bars
 
@@ -86,7 +95,7 @@ pub data Value : Type 0 where
   parentheses : Value
   number : ℕ → Value
 
--- number d1 to d19, where, and the value
+-- number d1 to d20, where, and the value
 pub record Diagnostic : Type 0 where
   pub number : ℕ
   pub position : Position

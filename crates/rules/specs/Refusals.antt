@@ -1,5 +1,5 @@
 -- Where a reading can stop (01's table), in its order. Assumes nothing.
-use Prim.Native.Nat.{ℕ, _+_, _-_}
+use Prim.Native.Nat.{ℕ, zero, suc, _+_, _-_}
 use mathlib.Core.Bool.{Bool, true, false, not, _&&_}
 use mathlib.Core.Option.{Option, none, some}
 use mathlib.Core.List.{List, [], _∷_}
@@ -8,9 +8,9 @@ use lib.Dec.{leb, ltb}
 use Rattle.rules.specs.Limits.{textLimit, noteLimit, diagnosticLimit, pitchCapacity, markCapacity}
 use Rattle.rules.specs.Text.{if_then_else_, Part}
 use Rattle.rules.specs.Characters.{isFormed, charactersIn, allBlank}
-use Rattle.rules.specs.Tokens.{Figure, figureMark, figureRepeat, barRepeat, Marking, beamOpen, beamClose, groupOpen, groupClose, groupCount, tie, trill, Token, Item, itemsOf, letterIn, isBarline, figureIn, markingIn, isWholeBarRest}
+use Rattle.rules.specs.Tokens.{Figure, figureMark, figureRepeat, barRepeat, Marking, beamOpen, beamClose, groupOpen, groupClose, groupCount, tie, trill, Token, Item, itemsOf, letterIn, isBarline, figureIn, markingIn}
 use Rattle.rules.specs.Records.{_or_, isSome, given, isEmpty, Note}
-use Rattle.rules.specs.Rules.{State, Attributes, Closing, nothing, fermata, tuplet, tooFew, closingOf, isNonGrace, stores, joins, stateAfter, stored}
+use Rattle.rules.specs.Rules.{State, Attributes, Closing, nothing, fermata, tuplet, tooFew, closingOf, isNonGrace, stores, joins, step, furtherBars, innerBarline, inTurn, stateAfter, stored}
 use Rattle.rules.specs.Fields.{fieldsOf, dataOf}
 
 -- how many whole records are lent for notes, bars and the figure, and how many diagnostic cells
@@ -99,8 +99,7 @@ passes limit added s = ltb 0 added && ltb limit (length (stored s) + added)
 
 abbrev pub tokenChecks : LentRecords → Token → State → List Check
 tokenChecks lent t s = let added = length (stores 0 t s) in
-    (6, isWholeBarRest t)
-    ∷ (7, passes noteLimit added s)
+    (7, passes noteLimit added s)
     ∷ (8, passes (lent .notes) added s)
     ∷ (9, isSome (letterIn t) && joins s && isFull (s .openBar))
     ∷ (10, given (markingIn t) false (λ m. overMarks m s))
@@ -111,10 +110,19 @@ tokenChecks lent t s = let added = length (stores 0 t s) in
 abbrev pub tokenRefusal : LentRecords → Token → State → Option ℕ
 tokenRefusal lent t s = firstFailing (tokenChecks lent t s)
 
+-- the first check that fails, at the token's place
+abbrev pub refusalAt : LentRecords → Item → State → Option Refusal
+refusalAt lent x s = given (tokenRefusal lent (x .token) s) none (λ n. some (refusal n (x .place)))
+
+-- whole-bar rests and the barlines between them are checked in turn
+abbrev pub refusalInTurn : LentRecords → Item → ℕ → State → Option Refusal
+refusalInTurn lent x zero s = refusalAt lent x s
+refusalInTurn lent x (suc further) s = let t = inTurn x further s in refusalInTurn lent x further s or refusalAt lent (innerBarline x) t or refusalAt lent x (step (innerBarline x) t)
+
 -- within data, at each token from the left
 unfoldable pub tokensRefusal : LentRecords → Attributes → List Item → Option Refusal
 tokensRefusal lent k [] = none
-tokensRefusal lent k (x ∷ before) = tokensRefusal lent k before or given (tokenRefusal lent (x .token) (stateAfter k before)) none (λ n. some (refusal n (x .place)))
+tokensRefusal lent k (x ∷ before) = tokensRefusal lent k before or refusalInTurn lent x (furtherBars (x .token)) (stateAfter k before)
 
 -- ---- at the end and after the data
 

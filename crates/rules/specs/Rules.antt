@@ -10,8 +10,8 @@ use lib.IntN.{ℤ, pos}
 use lib.Dec.{eqb, leb, ltb}
 use Rattle.rules.specs.Text.{if_then_else_}
 use Rattle.rules.specs.Values.{Meter, Length, treble, quarter, eighth, element, normalOf}
-use Rattle.rules.specs.Tokens.{Figure, figureMark, figureRepeat, barRepeat, Marking, beamOpen, beamClose, groupOpen, groupClose, groupCount, tie, trill, Token, Item, clefIn, keyIn, meterIn, octaveIn, durationIn, accidentalIn, letterIn, isChord, isRest, isBarline, rightIn, leftIn, graceIn, graceGroupIn, figureIn, markingIn}
-use Rattle.rules.specs.Records.{_or_, isSome, given, isEmpty, Pitch, Heading, Notations, Note, Bar, notesOf}
+use Rattle.rules.specs.Tokens.{Figure, figureMark, figureRepeat, barRepeat, Marking, beamOpen, beamClose, groupOpen, groupClose, groupCount, tie, trill, Token, barline, Item, clefIn, keyIn, meterIn, octaveIn, durationIn, accidentalIn, letterIn, isChord, isRest, isBarline, rightIn, leftIn, graceIn, graceGroupIn, figureIn, markingIn, wholeBarsIn}
+use Rattle.rules.specs.Records.{_or_, isSome, given, isEmpty, Pitch, Heading, Notations, Note, isRestKind, isGraceKind, Bar, notesOf}
 
 -- ---- the state
 
@@ -146,10 +146,10 @@ entered table step octave alter = λ m o. if eqb m step && eqb o octave then som
 abbrev pub accidentalsNext : Token → State → Accidentals
 accidentalsNext t s = if isBarline t then noAccidentals else given (letterIn t) (s .accidentals) (λ step. given (s .pendingAccidental) (s .accidentals) (λ alter. entered (s .accidentals) step (s .octave) alter))
 
--- there is a last record and it is no rest
+-- there is a last record and it is no rest, of either kind
 abbrev pub endsInNote : List Note → Bool
 endsInNote [] = false
-endsInNote (n ∷ ns) = not (eqb (n .heading .kind) 1)
+endsInNote (n ∷ ns) = not (isRestKind (n .heading .kind))
 
 -- after `^` the next letter joins the open bar's last record as a pitch if there is one and it is no rest
 abbrev pub joins : State → Bool
@@ -241,11 +241,16 @@ openedNote s place step = record { heading = openedHeading s place; pitches = pi
 abbrev pub restNote : State → ℕ → Note
 restNote s place = record { heading = heading place 1 (nextValue s); pitches = []; notations = plain false }
 
--- the records that a token stores: an opened note, a rest, copies
+-- a whole-bar rest: duration, dots and pitch count 0, the `=` token's place
+abbrev pub wholeBarRest : ℕ → Note
+wholeBarRest place = record { heading = record { place = place; kind = 4; duration = 0; dots = 0 }; pitches = []; notations = plain false }
+
+-- the records that a token stores: an opened note, a rest, a whole-bar rest, copies
 abbrev pub stores : ℕ → Token → State → List Note
 stores place t s =
     if opens t s then given (letterIn t) [] (λ step. openedNote s place step ∷ [])
     else if isRest t then restNote s place ∷ []
+    else if isSome (wholeBarsIn t) then wholeBarRest place ∷ []
     else given (figureIn t) [] (λ f. map (copied place) (repeated f s))
 
 -- one more pitch in the last record
@@ -261,7 +266,7 @@ joined place t s = given (letterIn t) (s .openBar) (λ step. if joins s then add
 
 -- a non-grace record, rests too
 abbrev pub isNonGrace : Note → Bool
-isNonGrace n = leb (n .heading .kind) 1
+isNonGrace n = not (isGraceKind (n .heading .kind))
 
 -- how many records are non-grace
 abbrev pub nonGraceIn : List Note → ℕ
@@ -400,10 +405,25 @@ step x s = let t = x .token in let place = x .place in record {
   tiePending = if opens t s || isRest t then false else given (markingIn t) (s .tiePending) (λ m. tieNext m s);
 }
 
+-- ---- whole-bar rests
+
+-- how many whole-bar rests a token stores beyond the first
+abbrev pub furtherBars : Token → ℕ
+furtherBars t = Option·getD (wholeBarsIn t) 1 - 1
+
+-- a normal barline stands between two of them, at the token's place
+abbrev pub innerBarline : Item → Item
+innerBarline x = record { place = x .place; offset = x .offset; size = x .size; token = barline 0 0 }
+
+-- the token's step; then, for each further bar, the barline's and the token's
+abbrev pub inTurn : Item → ℕ → State → State
+inTurn x zero s = step x s
+inTurn x (suc further) s = step x (step (innerBarline x) (inTurn x further s))
+
 -- the state after tokens, the latest first
 unfoldable pub stateAfter : Attributes → List Item → State
 stateAfter k [] = fresh k
-stateAfter k (x ∷ before) = step x (stateAfter k before)
+stateAfter k (x ∷ before) = inTurn x (furtherBars (x .token)) (stateAfter k before)
 
 -- every stored record
 abbrev pub stored : State → List Note

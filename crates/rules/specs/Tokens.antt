@@ -10,7 +10,7 @@ use lib.Dec.{eqb}
 use Rattle.rules.specs.Text.{bytes, if_then_else_, isDigit, isNoteLetter, Part}
 use Rattle.rules.specs.Characters.{begun, isBlank}
 use Rattle.rules.specs.Cut.{tokenSize}
-use Rattle.rules.specs.Values.{Clef, Key, Meter, Length, clefOf, keyOf, meterOf, countOf, raisedOctave, loweredOctave, patternOf, sharpened, flattened, stepOf}
+use Rattle.rules.specs.Values.{Clef, Key, Meter, Length, clefOf, keyOf, meterOf, countOf, wholeBarsOf, raisedOctave, loweredOctave, patternOf, sharpened, flattened, stepOf}
 
 -- `!`, `f`, `i`
 pub data Figure : Type 0 where
@@ -21,9 +21,10 @@ pub data Marking : Type 0 where
   beamOpen beamClose groupOpen groupClose tie trill : Marking
   groupCount : Option ℕ → Marking
 
--- blanks, a lone `:`, an `=` token, a token without a rule
+-- blanks, a lone `:`, a token without a rule, and `=` with its count, if that is not bad
 pub data Other : Type 0 where
-  blank colon wholeBarRest unknown : Other
+  blank colon unknown : Other
+  wholeBars : Option ℕ → Other
 
 -- clef, key, meter: `%`, `$`, `@` with what their values say; octave: a run of `'` or `,` with the octave that it sets, if it is in range;
 -- duration: a digit token's pattern; accidental: `x`, `xx`, `b`, `bb`, `n` with 1, 2, -1, -2, 0; letter: its step; chord: `^`; rest: `-`;
@@ -51,7 +52,7 @@ slashes size = if eqb size 1 then barline 0 0 else if eqb size 2 then barline 1 
 abbrev pub colons : ℕ → Token
 colons size = if eqb size 1 then other colon else if eqb size 3 then barline 3 0 else barline 3 2
 
--- what the token is that has the first byte b and then the bytes bs. Values are the text after the first byte for `%`, `$`, `@`, `;`, for other tokens all of it
+-- what the token is that has the first byte b and then the bytes bs. Values are the text after the first byte for `%`, `$`, `@`, `;`, `=`, for other tokens all of it
 unfoldable pub tokenOf : ℕ → List ℕ → Token
 tokenOf b bs = let size = 1 + length bs in
     if eqb b (code "%") then clef (clefOf bs)
@@ -81,7 +82,7 @@ tokenOf b bs = let size = 1 + length bs in
     else if eqb b (code ")") then marking groupClose
     else if eqb b (code "+") then marking tie
     else if eqb b (code "t") then marking trill
-    else if eqb b (code "=") then other wholeBarRest
+    else if eqb b (code "=") then other (wholeBars (wholeBarsOf bs))
     else if isBlank (b ∷ bs) then other blank
     else other unknown
 
@@ -171,5 +172,6 @@ figureIn = elim [ clef c ↦ none | key k ↦ none | meter m ↦ none | octave o
 abbrev pub markingIn : Token → Option Marking
 markingIn = elim [ clef c ↦ none | key k ↦ none | meter m ↦ none | octave o ↦ none | duration p ↦ none | accidental a ↦ none | letter n ↦ none | chord ↦ none | rest ↦ none | barline r l ↦ none | grace g ↦ none | graceGroup g ↦ none | figure f ↦ none | marking m ↦ some m | other o ↦ none ]
 
-abbrev pub isWholeBarRest : Token → Bool
-isWholeBarRest = elim [ clef c ↦ false | key k ↦ false | meter m ↦ false | octave o ↦ false | duration p ↦ false | accidental a ↦ false | letter n ↦ false | chord ↦ false | rest ↦ false | barline r l ↦ false | grace g ↦ false | graceGroup g ↦ false | figure f ↦ false | marking m ↦ false | other o ↦ elim o [ blank ↦ false | colon ↦ false | wholeBarRest ↦ true | unknown ↦ false ] ]
+-- how many whole-bar rests an `=` token stores
+abbrev pub wholeBarsIn : Token → Option ℕ
+wholeBarsIn = elim [ clef c ↦ none | key k ↦ none | meter m ↦ none | octave o ↦ none | duration p ↦ none | accidental a ↦ none | letter n ↦ none | chord ↦ none | rest ↦ none | barline r l ↦ none | grace g ↦ none | graceGroup g ↦ none | figure f ↦ none | marking m ↦ none | other o ↦ elim o [ blank ↦ none | colon ↦ none | unknown ↦ none | wholeBars c ↦ c ] ]

@@ -7,7 +7,7 @@ use mathlib.Core.List.{List, [], _∷_}
 use lib.ListN.{length, take, drop, getD, set, replicate}
 use lib.IntN.{ℤ, pos, negsuc, negℤ}
 use lib.Dec.{eqb, leb, ltb}
-use Rattle.rules.specs.Limits.{dotLimit, octaveLimit, countLimit}
+use Rattle.rules.specs.Limits.{dotLimit, octaveLimit, countLimit, wholeBarLimit}
 use Rattle.rules.specs.Text.{bytes, if_then_else_, among, isDigit, isNoteLetter, runLength, every, has, begins, isText, indexIn}
 use Rattle.rules.specs.Characters.{characterSize, charactersIn}
 
@@ -118,9 +118,18 @@ abbrev pub decimalFrom : ℕ → List ℕ → ℕ
 decimalFrom n [] = n
 decimalFrom n (d ∷ ds) = decimalFrom (n * 10 + (d - code "0")) ds
 
--- one or more digits, 0 to 255
+-- one or more digits, 0 to the limit
+abbrev pub numberTo : ℕ → List ℕ → Option ℕ
+numberTo limit ds = if ltb 0 (length ds) && every isDigit ds && leb (decimalFrom 0 ds) limit then some (decimalFrom 0 ds) else none
+
+-- 0 to 255
 unfoldable pub countOf : List ℕ → Option ℕ
-countOf ds = if ltb 0 (length ds) && every isDigit ds && leb (decimalFrom 0 ds) countLimit then some (decimalFrom 0 ds) else none
+countOf ds = numberTo countLimit ds
+
+-- the count of an `=`: 1 to 1,000, none meaning 1; none where it is bad
+unfoldable pub wholeBarsOf : List ℕ → Option ℕ
+wholeBarsOf [] = some 1
+wholeBarsOf (d ∷ ds) = if eqb (decimalFrom 0 (d ∷ ds)) 0 then none else numberTo wholeBarLimit (d ∷ ds)
 
 -- ---- meter
 

@@ -212,6 +212,8 @@ module _ (place offset size b : ℕ) (value : List ℕ) (st : Pae) {s : rules.St
   attributes-agree (t.Letter step) = idle w refl
   attributes-agree t.Chord = idle w refl
   attributes-agree t.Rest = idle w refl
+  attributes-agree (t.WholeBars count) = idle w refl
+  attributes-agree t.BadCount = idle w refl
   attributes-agree (t.Barline barline) = barline-agrees place offset size b value w barline content e
   attributes-agree (t.Grace slashed) = idle w refl
   attributes-agree (t.GraceGroup begins) = idle w refl
@@ -219,5 +221,4 @@ module _ (place offset size b : ℕ) (value : List ℕ) (st : Pae) {s : rules.St
   attributes-agree (t.Marking marking) = idle w refl
   attributes-agree t.Blank = idle w refl
   attributes-agree t.Colon = idle w refl
-  attributes-agree t.MeasureRest = idle w refl
   attributes-agree t.Unknown = idle w refl

@@ -112,6 +112,8 @@ module _ (place offset size b : ℕ) (value : List ℕ) {g : Groups} {s : rules.
   groups-agree (t.Letter step) = kept w refl
   groups-agree t.Chord = kept w refl
   groups-agree t.Rest = kept w refl
+  groups-agree (t.WholeBars count) = kept w refl
+  groups-agree t.BadCount = kept w refl
   groups-agree (t.Barline barline) = kept w refl
   groups-agree (t.Grace slashed) = kept w refl
   groups-agree (t.GraceGroup begins) = kept w refl
@@ -119,5 +121,4 @@ module _ (place offset size b : ℕ) (value : List ℕ) {g : Groups} {s : rules.
   groups-agree (t.Marking marking) = marking-agrees marking
   groups-agree t.Blank = kept w refl
   groups-agree t.Colon = kept w refl
-  groups-agree t.MeasureRest = kept w refl
   groups-agree t.Unknown = kept w refl

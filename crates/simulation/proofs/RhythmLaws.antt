@@ -72,6 +72,8 @@ Untimed token = elim token [
   | t.Letter step ↦ ⊥
   | t.Chord ↦ Unit {0}
   | t.Rest ↦ ⊥
+  | t.WholeBars count ↦ Unit {0}
+  | t.BadCount ↦ Unit {0}
   | t.Barline barline ↦ Unit {0}
   | t.Grace slashed ↦ Unit {0}
   | t.GraceGroup begins ↦ Unit {0}
@@ -79,7 +81,6 @@ Untimed token = elim token [
   | t.Marking marking ↦ Unit {0}
   | t.Blank ↦ Unit {0}
   | t.Colon ↦ Unit {0}
-  | t.MeasureRest ↦ Unit {0}
   | t.Unknown ↦ Unit {0}
 ]
 
@@ -138,6 +139,8 @@ module _ (place offset size b : ℕ) (value text : List ℕ) (s : rules.State) w
     other-stands (t.Letter step) u = absurd u
     other-stands t.Chord u = w
     other-stands t.Rest u = absurd u
+    other-stands (t.WholeBars count) u = w
+    other-stands t.BadCount u = w
     other-stands (t.Barline barline) u = w
     other-stands (t.Grace slashed) u = w
     other-stands (t.GraceGroup begins) u = w
@@ -145,5 +148,4 @@ module _ (place offset size b : ℕ) (value text : List ℕ) (s : rules.State) w
     other-stands (t.Marking marking) u = w
     other-stands t.Blank u = w
     other-stands t.Colon u = w
-    other-stands t.MeasureRest u = w
     other-stands t.Unknown u = w

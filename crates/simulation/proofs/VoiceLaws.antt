@@ -119,6 +119,8 @@ module _ (place offset size b : ℕ) (value : List ℕ) {v : Voice} {s : rules.S
   voice-agrees (t.Letter step) joined ends h e f = letter-agrees step joined e
   voice-agrees t.Chord joined ends h e f = chord-agrees
   voice-agrees t.Rest joined ends h e f = rest-agrees
+  voice-agrees (t.WholeBars count) joined ends h e f = kept refl
+  voice-agrees t.BadCount joined ends h e f = kept refl
   voice-agrees (t.Barline barline) joined ends h e f = kept refl
   voice-agrees (t.Grace slashed) joined ends h e f = grace-agrees slashed
   voice-agrees (t.GraceGroup begins) joined ends h e f = group-agrees begins
@@ -126,5 +128,4 @@ module _ (place offset size b : ℕ) (value : List ℕ) {v : Voice} {s : rules.S
   voice-agrees (t.Marking marking) joined ends h e f = marking-agrees marking ends f
   voice-agrees t.Blank joined ends h e f = kept refl
   voice-agrees t.Colon joined ends h e f = kept refl
-  voice-agrees t.MeasureRest joined ends h e f = kept refl
   voice-agrees t.Unknown joined ends h e f = kept refl

@@ -8,8 +8,8 @@ use lib.ListN.{getD}
 use lib.Dec.{eqb}
 use Rattle.rules.specs.Limits.{noteSize}
 use Rattle.rules.specs.Values.{Length, normalOf}
-use Rattle.rules.specs.Records.{Pitch, Heading}
-use Rattle.rules.specs.Rules.{kindOf, lengthOf, heading, Closing, nothing, fermata, tuplet, tooFew}
+use Rattle.rules.specs.Records.{Pitch, Heading, isRestKind}
+use Rattle.rules.specs.Rules.{kindOf, lengthOf, heading, wholeBarRest, Closing, nothing, fermata, tuplet, tooFew}
 use Rattle.rules.specs.Words.{noteWords}
 use Rattle.rules.specs.Stored.{natural}
 use Rattle.records.specs.Cells.{withRecord, changed}
@@ -24,9 +24,9 @@ use Rattle.steps.specs.State.{hasContent}
 abbrev pub lastField : ℕ → Counts → List ℤ → ℕ
 lastField at c cells = natural (getD cells ((c .notes - 1) * noteSize + at) (pos 0))
 
--- the open bar has a last record, and it is no rest
+-- the open bar has a last record, and it is no rest, of either kind
 abbrev pub endsOf : Counts → List ℤ → Bool
-endsOf c cells = hasContent c && not (eqb (lastField kindAt c cells) 1)
+endsOf c cells = hasContent c && not (isRestKind (lastField kindAt c cells))
 
 -- a letter joins it
 abbrev pub joinsOf : Voice → Counts → List ℤ → Bool
@@ -55,6 +55,9 @@ openedCells c v length step alter place cells = withRecord noteSize cells (c .no
 
 abbrev pub restCells : Counts → Length → ℕ → List ℤ → List ℤ
 restCells c length place cells = withRecord noteSize cells (c .notes) (noteWords (opened (c .bars + 1) (heading place 1 length) false []))
+
+abbrev pub wholeBarCells : Counts → ℕ → List ℤ → List ℤ
+wholeBarCells c place cells = withRecord noteSize cells (c .notes) (noteWords (opened (c .bars + 1) (wholeBarRest place .heading) false []))
 
 abbrev pub tiedCells : Counts → List ℤ → List ℤ
 tiedCells c cells = changed noteSize tieStarted cells (c .notes - 1)

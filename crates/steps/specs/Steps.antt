@@ -29,6 +29,8 @@ attributesNext token value st = let a = st .attributes in let content = hasConte
   | t.Letter step ↦ a
   | t.Chord ↦ a
   | t.Rest ↦ a
+  | t.WholeBars count ↦ a
+  | t.BadCount ↦ a
   | t.Barline barline ↦ barAttributes content (barline .left) a
   | t.Grace slashed ↦ a
   | t.GraceGroup begins ↦ a
@@ -36,7 +38,6 @@ attributesNext token value st = let a = st .attributes in let content = hasConte
   | t.Marking marking ↦ a
   | t.Blank ↦ a
   | t.Colon ↦ a
-  | t.MeasureRest ↦ a
   | t.Unknown ↦ a
 ]
 
@@ -55,6 +56,8 @@ voiceNext token joined ends v = elim token [
   | t.Letter step ↦ cond joined (letterJoined v) (letterOpened v)
   | t.Chord ↦ chordSet v
   | t.Rest ↦ tieSet false v
+  | t.WholeBars count ↦ v
+  | t.BadCount ↦ v
   | t.Barline barline ↦ v
   | t.Grace slashed ↦ graceSet slashed v
   | t.GraceGroup begins ↦ graceGroupSet begins v
@@ -62,7 +65,6 @@ voiceNext token joined ends v = elim token [
   | t.Marking marking ↦ markingVoice marking ends v
   | t.Blank ↦ v
   | t.Colon ↦ v
-  | t.MeasureRest ↦ v
   | t.Unknown ↦ v
 ]
 
@@ -81,6 +83,8 @@ countsNext token joined n c = elim token [
   | t.Letter step ↦ cond joined c (counted 1 c)
   | t.Chord ↦ c
   | t.Rest ↦ counted 1 c
+  | t.WholeBars count ↦ counted 1 c
+  | t.BadCount ↦ c
   | t.Barline barline ↦ barCounted c
   | t.Grace slashed ↦ c
   | t.GraceGroup begins ↦ c
@@ -88,7 +92,6 @@ countsNext token joined n c = elim token [
   | t.Marking marking ↦ c
   | t.Blank ↦ c
   | t.Colon ↦ c
-  | t.MeasureRest ↦ c
   | t.Unknown ↦ c
 ]
 
@@ -110,6 +113,8 @@ groupsNext token value n g = elim token [
   | t.Letter step ↦ g
   | t.Chord ↦ g
   | t.Rest ↦ g
+  | t.WholeBars count ↦ g
+  | t.BadCount ↦ g
   | t.Barline barline ↦ g
   | t.Grace slashed ↦ g
   | t.GraceGroup begins ↦ g
@@ -117,7 +122,6 @@ groupsNext token value n g = elim token [
   | t.Marking marking ↦ markingGroups marking value n g
   | t.Blank ↦ g
   | t.Colon ↦ g
-  | t.MeasureRest ↦ g
   | t.Unknown ↦ g
 ]
 
@@ -135,6 +139,8 @@ figureNext token st = let old = st .figure in elim token [
   | t.Letter step ↦ old
   | t.Chord ↦ old
   | t.Rest ↦ old
+  | t.WholeBars count ↦ old
+  | t.BadCount ↦ old
   | t.Barline barline ↦ old
   | t.Grace slashed ↦ old
   | t.GraceGroup begins ↦ old
@@ -142,7 +148,6 @@ figureNext token st = let old = st .figure in elim token [
   | t.Marking marking ↦ old
   | t.Blank ↦ old
   | t.Colon ↦ old
-  | t.MeasureRest ↦ old
   | t.Unknown ↦ old
 ]
 
@@ -158,6 +163,8 @@ tableNext token v table = elim token [
   | t.Letter step ↦ lettered step v table
   | t.Chord ↦ table
   | t.Rest ↦ table
+  | t.WholeBars count ↦ table
+  | t.BadCount ↦ table
   | t.Barline barline ↦ cleared
   | t.Grace slashed ↦ table
   | t.GraceGroup begins ↦ table
@@ -165,7 +172,6 @@ tableNext token v table = elim token [
   | t.Marking marking ↦ table
   | t.Blank ↦ table
   | t.Colon ↦ table
-  | t.MeasureRest ↦ table
   | t.Unknown ↦ table
 ]
 

@@ -8,7 +8,7 @@ ghost use Rattle.rules.specs.Words.{zeros};
 ghost use Rattle.records.specs.Cells.{wordLimit, recordAt};
 ghost use Rattle.records.specs.Notes.{headingOf, pitchOf, pitchCountAt, markCountAt, marksAt, markLimit};
 ghost use Rattle.rules.specs.Rules.{kindOf, lengthOf, heading};
-ghost use Rattle.steps.specs.Notes.{lastField, endsOf, joinsOf, graceIn, isGraceIn, headingIn, pitchIn, joinedCells, openedCells, restCells, tiedCells, trilledCells};
+ghost use Rattle.steps.specs.Notes.{lastField, endsOf, joinsOf, graceIn, isGraceIn, headingIn, pitchIn, joinedCells, openedCells, restCells, wholeBarCells, tiedCells, trilledCells};
 use limits::Counts;
 use limits::Voice;
 use records::Place;
@@ -22,7 +22,7 @@ use records::note::start_tie;
 use records::note::store_note;
 use records::note::store_rest;
 
-// There is a last record in the open bar, and it is no rest.
+// There is a last record in the open bar, and it is no rest, of either kind.
 pub fn ends_in_note(counts: Counts, notes: &[i32]) -> bool
     requires { ⌜ counts .notes * noteSize ≤ length (now notes) ⌝ }
     ensures { λ r. ⌜ r ≡ endsOf counts (now (notes .entry)) ⌝ }
@@ -31,7 +31,7 @@ pub fn ends_in_note(counts: Counts, notes: &[i32]) -> bool
         return false;
     }
     let kind = field(notes, counts.notes - 1, KIND);
-    kind != 1
+    !((kind == 1) | (kind == 4))
 }
 
 // A letter joins the open bar's last record.
@@ -168,6 +168,15 @@ pub fn rest(notes: &mut [i32], counts: Counts, duration: u8, dots: u8, place: Pl
     ensures { λ _. ⌜ now (notes .exit) ≡ restCells counts (record { duration = duration; dots = dots }) (place .0) (now (notes .entry)) ⌝ }
 {
     let h = heading(1, duration, dots, place);
+    store_rest(notes, counts.notes, h, (counts.bars + 1) as u32);
+}
+
+// A whole-bar rest.
+pub fn whole_bar_rest(notes: &mut [i32], counts: Counts, place: Place)
+    requires { ⌜ (counts .notes * noteSize + noteSize ≤ length (now notes)) × (place .0 < wordLimit) × (counts .bars + 1 < wordLimit) × (recordAt noteSize (now notes) (counts .notes) ≡ zeros noteSize) ⌝ }
+    ensures { λ _. ⌜ now (notes .exit) ≡ wholeBarCells counts (place .0) (now (notes .entry)) ⌝ }
+{
+    let h = heading(4, 0, 0, place);
     store_rest(notes, counts.notes, h, (counts.bars + 1) as u32);
 }
 

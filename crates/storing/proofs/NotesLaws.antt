@@ -12,7 +12,7 @@ use Rattle.rules.specs.Limits.{noteSize, noteLimit, pitchCapacity}
 use Rattle.rules.specs.Values.{Length}
 use Rattle.rules.specs.Tokens.{tie, trill}
 use Rattle.rules.specs.Records.{Pitch, Notations, Note, Bar}
-use Rattle.rules.specs.Rules.{State, heading, plain, endsInNote, addPitch, withTieStart, withMark, marked, withNotations}
+use Rattle.rules.specs.Rules.{State, heading, plain, wholeBarRest, endsInNote, addPitch, withTieStart, withMark, marked, withNotations}
 use Rattle.rules.specs.Words.{cells, padded, noteWords}
 use Rattle.limits.specs.declared.Voice.{Voice}
 use Rattle.limits.specs.declared.Counts.{Counts}
@@ -23,7 +23,7 @@ use Rattle.records.proofs.GroupLaws.{wordsIn, renoted}
 use Rattle.records.proofs.StoredLaws.{note-stored, last-changed}
 use Rattle.records.proofs.MarkingLaws.{tie-open, trill-open}
 use Rattle.steps.specs.State.{hasContent, counted}
-use Rattle.steps.specs.Notes.{lastField, endsOf, headingIn, pitchIn, joinedCells, openedCells, restCells, tiedCells, trilledCells}
+use Rattle.steps.specs.Notes.{lastField, endsOf, headingIn, pitchIn, joinedCells, openedCells, restCells, wholeBarCells, tiedCells, trilledCells}
 use Rattle.steps.specs.Relation.{recordsIn, Stored}
 use Rattle.steps.proofs.CountLaws.{content, last-number, last-pitches, ends-agree}
 
@@ -84,6 +84,10 @@ module _ {size : ℕ} {bs : List Bar} {c : Counts} {notes : List ℤ} where
       → x .heading ≡ heading place 1 value → x .pitches ≡ [] → x .notations ≡ plain false → (c .notes + 1) * noteSize ≤ size → c .notes + 1 ≤ noteLimit
       → Stored size (x ∷ o) bs (counted 1 c) (restCells c value place notes)
   rested r value place x h q d fit cap = added r x (record { heading = heading place 1 value; pitches = []; notations = plain false }) (λ i. record { heading = h i; pitches = q i; notations = d i }) fit cap
+
+  -- 'duration, dots and pitch count 0'
+  pub whole-bar : {o : List Note} → Stored size o bs c notes → (place : ℕ) → (c .notes + 1) * noteSize ≤ size → c .notes + 1 ≤ noteLimit → Stored size (wholeBarRest place ∷ o) bs (counted 1 c) (wholeBarCells c place notes)
+  whole-bar r place fit cap = added r (wholeBarRest place) (wholeBarRest place) refl fit cap
 
   -- 'the next letter joins the open bar's last record as a pitch'
   pub joined : (o : List Note) → Stored size o bs c notes → endsInNote o ≡ true → (v : Voice) (step : ℕ) (alter : ℤ) (place : ℕ) (q : Pitch)

@@ -12,7 +12,7 @@ use borrow.Author.Tests.{leb-true, leb-false}
 use Rattle.text.proofs.BoolLaws.{both}
 use Rattle.rules.specs.Limits.{noteSize, noteLimit, pitchCapacity}
 use Rattle.rules.specs.Values.{Length}
-use Rattle.rules.specs.Tokens.{Token, Item, letter, rest, barline, figure, figureMark, figureRepeat, barRepeat, marking, beamOpen, beamClose, groupOpen, groupClose, groupCount, tie, trill, letterIn, isRest, isBarline, figureIn, markingIn}
+use Rattle.rules.specs.Tokens.{Token, Item, letter, rest, barline, figure, figureMark, figureRepeat, barRepeat, marking, beamOpen, beamClose, groupOpen, groupClose, groupCount, tie, trill, other, wholeBars, letterIn, isRest, isBarline, figureIn, markingIn, wholeBarsIn}
 use Rattle.rules.specs.Records.{Note, given}
 use Rattle.rules.specs.Rules.{State, Group, Closing, nothing, fermata, tuplet, tooFew, closing, closingOf, pitchOf, kindOf, lengthOf, heading, plain, openedNote, restNote, nextValue, alterOf, endsInNote, joins, copied, repeatedBar, notesFrom, groupClosed, beamClosed, notationsNext, withNotations, step}
 use Rattle.rules.specs.Words.{zeros}
@@ -25,11 +25,11 @@ use Rattle.records.specs.Notes.{pitchCountAt}
 use Rattle.records.specs.Groups.{timedCount, beamed, onPart}
 use Rattle.records.proofs.CellLaws.{padded-none}
 use Rattle.steps.specs.State.{hasContent, openLength, counted, barCounted, repeatedCount, figureClosed}
-use Rattle.steps.specs.Notes.{lastField, endsOf, joinsOf, pitchIn, joinedCells, openedCells, restCells, tiedCells, trilledCells, closedCells}
+use Rattle.steps.specs.Notes.{lastField, endsOf, joinsOf, pitchIn, joinedCells, openedCells, restCells, wholeBarCells, tiedCells, trilledCells, closedCells}
 use Rattle.steps.specs.Relation.{countIn, Voiced, Grouped, Stored, Figured}
 use Rattle.steps.proofs.CountLaws.{length-open, ends-agree}
 use Rattle.steps.proofs.StoredBar.{bar-stored}
-use Rattle.storing.proofs.NotesLaws.{opened, rested, joined, withNotations-same, kept, untouched, tied, trilled}
+use Rattle.storing.proofs.NotesLaws.{opened, rested, whole-bar, joined, withNotations-same, kept, untouched, tied, trilled}
 use Rattle.storing.proofs.FigureLaws.{figure-closed, figure-repeated, bar-repeated}
 use Rattle.storing.proofs.GroupsOpenLaws.{beam-closed, beam-beyond, closing-read, nothing-closed, few-closed, fermata-closed, tuplet-closed}
 
@@ -52,9 +52,9 @@ module _ {size : ℕ} {c : Counts} {notes : List ℤ} (place offset width : ℕ)
 
   -- ---- tokens that store, join and mark nothing
 
-  pub quiet-stored : (t : Token) → isBarline t ≡ false → letterIn t ≡ none → isRest t ≡ false → figureIn t ≡ none → markingIn t ≡ none → After t c notes
+  pub quiet-stored : (t : Token) → isBarline t ≡ false → letterIn t ≡ none → isRest t ≡ false → wholeBarsIn t ≡ none → figureIn t ≡ none → markingIn t ≡ none → After t c notes
   unfolding step
-  quiet-stored t a b d e f = rw (a, b, d, e) (kept r (notationsNext t s) (λ j n. rw f))
+  quiet-stored t a b d g e f = rw (a, b, d, g, e) (kept r (notationsNext t s) (λ j n. rw f))
 
   pub beam-open-stored : After (marking beamOpen) c notes
   unfolding step
@@ -107,6 +107,11 @@ module _ {size : ℕ} {c : Counts} {notes : List ℤ} (place offset width : ℕ)
   pub rest-stored : (value : Length) → nextValue s ≡ value → (c .notes + 1) * noteSize ≤ size → c .notes + 1 ≤ noteLimit → After rest (counted 1 c) (restCells c value place notes)
   unfolding step
   rest-stored value e fit cap = rested (untouched r) value place (restNote s place) (ap (heading place 1) e) refl refl fit cap
+
+  -- 'records of kind 4, the whole-bar rest'
+  pub whole-bar-stored : (count : ℕ) → (c .notes + 1) * noteSize ≤ size → c .notes + 1 ≤ noteLimit → After (other (wholeBars (some count))) (counted 1 c) (wholeBarCells c place notes)
+  unfolding step
+  whole-bar-stored count fit cap = whole-bar (untouched r) place fit cap
 
   -- ---- figures
 

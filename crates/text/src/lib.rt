@@ -5,16 +5,18 @@ pub use number::Count;
 ghost use mathlib.Core.Path.{_≡_};
 ghost use Prim.Native.Nat.{_+_, _<_, _≤_};
 ghost use mathlib.Core.Bool.{cond, true};
+ghost use mathlib.Core.Option.{Option·getD};
 ghost use mathlib.Core.List.{[], _∷_};
 ghost use lib.ListN.{length, getD, drop};
 ghost use lib.Dec.{eqb};
 ghost use Rattle.rules.specs.Text.{bytes, among, isDigit, isNoteLetter, isAlphabetic, runLength, every, begins, isText};
 ghost use Rattle.rules.specs.Characters.{nonBlanksSize};
 ghost use Rattle.rules.specs.Cut.{longestOf, tokenSize};
-ghost use Rattle.rules.specs.Values.{countOf};
+ghost use Rattle.rules.specs.Limits.{wholeBarLimit};
+ghost use Rattle.rules.specs.Values.{numberTo, countOf, wholeBarsOf};
 ghost use Rattle.rules.specs.Fields.{lineSize, keySize, isField};
 ghost use Rattle.text.specs.Classes.{isPlain, inClass};
-ghost use Rattle.text.specs.Counts.{numberIn};
+ghost use Rattle.text.specs.Counts.{noNumber, numberIn};
 ghost use Rattle.text.specs.Runs.{SameEnd};
 ghost use Rattle.text.specs.Parts.{Trimmed};
 ghost use Rattle.text.specs.Keys.{fieldKeyOf};
@@ -30,6 +32,9 @@ const SINGLES: usize = 8;
 
 // How many bytes a chunk has: so many that the test of one is compiled to a short loop over vectors.
 const CHUNK: usize = 96;
+
+// No number: above every limit of a count.
+const NONE: u16 = 65535;
 
 // Classes of bytes.
 pub enum Class {
@@ -214,27 +219,53 @@ fn wide(b: u8) -> u16
     b as u16
 }
 
-// The number that one or more digits make, 0 to 255.
-pub fn count(digits: &[u8]) -> Count
-    ensures { λ r. ⌜ numberIn r ≡ countOf (now (digits .entry)) ⌝ }
+// The number that one or more digits make, up to a limit; NONE where there is none.
+fn number_to(limit: u16, digits: &[u8]) -> u16
+    requires { ⌜ limit ≤ wholeBarLimit ⌝ }
+    ensures { λ r. ⌜ r ≡ Option·getD (numberTo limit (now (digits .entry))) noNumber ⌝ }
 {
     if digits.len() == 0 {
-        return Count::Refused;
+        return NONE;
     }
     let mut n: u16 = 0;
     let mut i = 0;
     while i < digits.len() {
         let b = digits[i];
         if !is_digit(b) {
-            return Count::Refused;
+            return NONE;
         }
         n = n * 10 + wide(b - b'0');
-        if Pae::MAX_COUNT < n {
-            return Count::Refused;
+        if limit < n {
+            return NONE;
         }
         i += 1;
     }
+    n
+}
+
+// The number that one or more digits make, 0 to 255.
+pub fn count(digits: &[u8]) -> Count
+    ensures { λ r. ⌜ numberIn r ≡ countOf (now (digits .entry)) ⌝ }
+{
+    let n = number_to(Pae::MAX_COUNT, digits);
+    if n == NONE {
+        return Count::Refused;
+    }
     Count::Number(n as u8)
+}
+
+// The count of an `=` with these digits, 1 to 1,000, no digits meaning 1; 0 where it is bad.
+pub fn whole_bars(digits: &[u8]) -> u16
+    ensures { λ r. ⌜ r ≡ Option·getD (wholeBarsOf (now (digits .entry))) 0 ⌝ }
+{
+    if digits.len() == 0 {
+        return 1;
+    }
+    let n = number_to(Pae::MAX_WHOLE_BARS, digits);
+    if n == NONE {
+        return 0;
+    }
+    n
 }
 
 // ---- tokens

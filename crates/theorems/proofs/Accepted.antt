@@ -1,5 +1,5 @@
 -- A reading with the number 0 is a finished one, as no refusal has the number 0; no check of its text fails. Assumes nothing.
-use Prim.Native.Nat.{ℕ, _<_}
+use Prim.Native.Nat.{ℕ, zero, suc, _<_}
 use mathlib.Core.Path.{_≡_, refl, ap}
 use mathlib.Core.Bool.{Bool, true, false, cond}
 use mathlib.Core.Option.{Option, none, some}
@@ -9,8 +9,8 @@ use borrow.Author.Tests.{not-false}
 use Rattle.rules.specs.Characters.{isFormed}
 use Rattle.rules.specs.Tokens.{Item}
 use Rattle.rules.specs.Records.{_or_, given, isEmpty}
-use Rattle.rules.specs.Rules.{stateAfter, stored, Attributes}
-use Rattle.rules.specs.Refusals.{refusal, Check, firstFailing, textChecks, textRefusal, overBars, tokenChecks, tokenRefusal, tokensRefusal, refusalOf, LentRecords, Refusal}
+use Rattle.rules.specs.Rules.{step, furtherBars, innerBarline, inTurn, stateAfter, stored, State, Attributes}
+use Rattle.rules.specs.Refusals.{refusal, Check, firstFailing, textChecks, textRefusal, overBars, tokenChecks, tokenRefusal, refusalAt, refusalInTurn, tokensRefusal, refusalOf, LentRecords, Refusal}
 use Rattle.rules.specs.Reading.{lentRecords, attributesOf, tokensOf, accepted, refused, reading, Lent}
 use Rattle.rules.specs.Agreement.{All}
 use Rattle.theorems.proofs.Lists.{cond-ind}
@@ -39,12 +39,20 @@ or-refuses (some r) b g h = g
 text-refuses : (text : List ℕ) (lent : LentRecords) → Refuses (textRefusal text lent)
 text-refuses text lent = at-place (firstFailing (textChecks text lent)) 0 (failing-positive (textChecks text lent) (omega arith, (omega arith, (omega arith, (omega arith, (omega arith, tt))))))
 
+at-refuses : (lent : LentRecords) (x : Item) (s : State) → Refuses (refusalAt lent x s)
+at-refuses lent x s = at-place (tokenRefusal lent (x .token) s) (x .place) (failing-positive (tokenChecks lent (x .token) s) (omega arith, (omega arith, (omega arith, (omega arith, (omega arith, (omega arith, tt)))))))
+
+turn-refuses : (lent : LentRecords) (x : Item) (further : ℕ) (s : State) → Refuses (refusalInTurn lent x further s)
+turn-refuses lent x zero s = at-refuses lent x s
+turn-refuses lent x (suc further) s =
+    let t : State = inTurn x further s in
+    or-refuses (refusalInTurn lent x further s) _ (turn-refuses lent x further s) (or-refuses (refusalAt lent (innerBarline x) t) _ (at-refuses lent (innerBarline x) t) (at-refuses lent x (step (innerBarline x) t)))
+
 tokens-refuse : (lent : LentRecords) (k : Attributes) (all : List Item) → Refuses (tokensRefusal lent k all)
 unfolding tokensRefusal
 tokens-refuse lent k [] = tt
 tokens-refuse lent k (x ∷ before) = or-refuses (tokensRefusal lent k before) _ (tokens-refuse lent k before)
-    (at-place (tokenRefusal lent (x .token) (stateAfter k before)) (x .place)
-    (failing-positive (tokenChecks lent (x .token) (stateAfter k before)) (omega arith, (omega arith, (omega arith, (omega arith, (omega arith, (omega arith, (omega arith, tt)))))))))
+    (turn-refuses lent x (furtherBars (x .token)) (stateAfter k before))
 
 refuses : (text : List ℕ) (lent : LentRecords) → Refuses (refusalOf text lent)
 unfolding refusalOf

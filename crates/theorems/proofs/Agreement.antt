@@ -1,23 +1,26 @@
--- The rules' notes and the look-back agree on every letter; how they stand in the cells is said in Cells. Assumes nothing.
-use Prim.Native.Nat.{ℕ, suc, _≤_}
+-- The rules' notes and the look-back agree on every letter, and on the whole-bar rests of every `=`; how they stand in the cells is said in Cells. Assumes nothing.
+use Prim.Native.Nat.{ℕ, zero, suc, _-_, _≤_}
+use Prim.Native.Char.{code}
 use mathlib.Core.Path.{_≡_, refl, sym, ap, _∙_, subst}
-use mathlib.Core.Bool.{Bool, true, false, not, cond, _&&_}
+use mathlib.Core.Bool.{Bool, true, false, not, cond, _&&_, false≢true}
 use mathlib.Core.Logic.{inl, inr, _≢_}
-use mathlib.Core.Option.{some}
-use mathlib.Core.List.{List, [], _∷_, _++_, map, append-nil, append-assoc, map-append}
+use mathlib.Core.Option.{Option, none, some, Option·getD}
+use mathlib.Core.List.{List, [], _∷_, _++_, map, append-nil, append-assoc}
 use native.Mathlib.Omega.{arith}
-use mir.Facts.{no-eqb}
-use lib.Dec.{T, eqb, eqb-refl}
-use Rattle.rules.specs.Text.{Part}
-use Rattle.rules.specs.Tokens.{latestPlace, Ordered, letterIn, isBarline, rightIn, Token, Item, clef, key, meter, octave, duration, accidental, letter, chord, rest, barline, grace, graceGroup, figure, marking, other}
-use Rattle.rules.specs.Records.{notesOf, Pitch, Heading, Notations, Note}
-use Rattle.rules.specs.Rules.{close, pitchOf, endsInNote, joins, openedHeading, openedNote, stores, addPitch, joined, notationsNext, withNotations, step, stateAfter, stored, barsAtEnd, State, Attributes}
-use Rattle.rules.specs.LookBack.{keep, textOf, backJoins}
+use mir.Facts.{no-eqb, yes-eqb, eqb-yes}
+use lib.Dec.{T, eqb}
+use lib.ListN.{replicate}
+use Rattle.rules.specs.Text.{bytes, begins, Part}
+use Rattle.rules.specs.Tokens.{latestPlace, Ordered, letterIn, isRest, isBarline, rightIn, figureIn, wholeBarsIn, Figure, figureMark, figureRepeat, barRepeat, Token, Item, clef, key, meter, octave, duration, accidental, letter, chord, rest, barline, grace, graceGroup, figure, marking, other}
+use Rattle.rules.specs.Records.{isSome, given, notesOf, Pitch, Heading, Notations, Note, isRestKind}
+use Rattle.rules.specs.Rules.{close, pitchOf, endsInNote, joins, openedHeading, openedNote, restNote, wholeBarRest, copied, repeated, stores, addPitch, joined, notationsNext, withNotations, step, furtherBars, innerBarline, stateAfter, stored, barsAtEnd, State, Attributes}
+use Rattle.rules.specs.LookBack.{keep, textOf, wholeBarRests, backJoins}
 use Rattle.rules.specs.Agreement.{All, Some, Letter}
-use Rattle.theorems.proofs.Lists.{is-true, cond-ind, given-ind, all-imp, all-map, some-right, keep-++, keep-none}
-use Rattle.theorems.proofs.Places.{AllH, stores-here, older, close-notes, places-till}
+use Rattle.theorems.proofs.Lists.{cond-ind, given-ind, all-imp, some-right, keep-++, keep-none, keep-every, both-true}
+use Rattle.theorems.proofs.WholeBars.{each-turn}
+use Rattle.theorems.proofs.Places.{headings, older, close-notes, storedBy, headings-turn, stored-here, places-till}
 use Rattle.theorems.proofs.FieldByField.{backPitch, backHeading, joins-agrees, pitch-agrees, heading-agrees}
-use Rattle.theorems.proofs.Cutting.{Says, Cut, ordered, cut-at}
+use Rattle.theorems.proofs.Cutting.{repeatsIn, restsIn, Says, Cut, ordered, cut-from}
 use Rattle.theorems.proofs.Kept.{KeptPitches, of-pitches, kept-all}
 
 -- ---- places
@@ -53,11 +56,54 @@ letterAt p o z n = record { place = p; offset = o; size = z; token = letter n }
 -- a letter of the data is such a token
 letter-stands : (line : Part) (all : List Item) → Cut line all → (l : Letter line all) → all ≡ l .later ++ letterAt (l .item .place) (l .item .offset) (l .item .size) (l .step) ∷ l .before
 letter-stands line all h l =
-    let cut : Says (l .item .token) (textOf line (l .item)) = cut-at line (l .later) (l .item) (l .before) (subst (Cut line) (l .stands) h) in
+    let cut : Says (l .item .token) (textOf line (l .item)) = cut-from line (l .later) (l .item ∷ l .before) (subst (Cut line) (l .stands) h) .2 in
     l .stands ∙ λ i. l .later ++ record { place = l .item .place; offset = l .item .offset; size = l .item .size; token = letter-is (l .item .token) (l .step) (cut .letter ∙ l .isLetter) i } ∷ l .before
 
-abbrev pub headings : List Note → List Heading
-headings l = map (λ r. r .heading) l
+-- ---- what an `=` stores
+
+-- it is none of the other tokens that store
+record Whole (t : Token) : Type 0 where
+  letter : letterIn t ≡ none
+  bar : isBarline t ≡ false
+  dash : isRest t ≡ false
+  copy : repeatsIn t ≡ false
+
+whole-is : (t : Token) (text : List ℕ) → Says t text → begins (bytes "=") text ≡ true → Whole t
+whole-is t [] h b = absurd (false≢true b)
+whole-is t (c ∷ cs) h b =
+    let e : c ≡ code "=" = eqb-yes (rw (both-true (eqb c (code "=")) true b .0) tt) in
+    let says : Says t (code "=" ∷ cs) = subst (λ a. Says t (a ∷ cs)) e h in
+    record { letter = says .letter; bar = says .bar; dash = says .dash; copy = says .copy }
+
+-- over all its turns
+whole-bars : (x : Item) (s : State) (text : List ℕ) → Says (x .token) text → begins (bytes "=") text ≡ true → headings (storedBy x (furtherBars (x .token)) s) ≡ replicate (restsIn (x .token)) (wholeBarRest (x .place) .heading)
+whole-bars x s text h b =
+    (λ i. headings (replicate (furtherBars t) (wholeBarRest p) ++ cond (w .bar i) [] (cond (isSome (w .letter i) && not (joins s)) (given (w .letter i) [] (λ n. openedNote s p n ∷ []))
+    (cond (w .dash i) (restNote s p ∷ []) (cond (isSome (wholeBarsIn t)) (wholeBarRest p ∷ []) (no-copies (figureIn t) (w .copy) i))))))
+    ∙ rests (wholeBarsIn t)
+  where
+    t : Token
+    t = x .token
+
+    p : ℕ
+    p = x .place
+
+    w : Whole t
+    w = whole-is t text h b
+
+    no-copies : (o : Option Figure) → given o false (λ f. elim f [ figureMark ↦ false | figureRepeat ↦ true | barRepeat ↦ true ]) ≡ false → given o [] (λ f. map (copied p) (repeated f s)) ≡ []
+    no-copies none e = refl
+    no-copies (some figureMark) e = refl
+    no-copies (some figureRepeat) e = absurd (false≢true (sym e))
+    no-copies (some barRepeat) e = absurd (false≢true (sym e))
+
+    last : (n : ℕ) → headings (replicate n (wholeBarRest p) ++ wholeBarRest p ∷ []) ≡ replicate (suc n) (wholeBarRest p .heading)
+    last zero = refl
+    last (suc n) = ap (λ l. wholeBarRest p .heading ∷ l) (last n)
+
+    rests : (c : Option ℕ) → headings (replicate (Option·getD c 1 - 1) (wholeBarRest p) ++ cond (isSome c) (wholeBarRest p ∷ []) []) ≡ replicate (given c 0 (λ n. suc (n - 1))) (wholeBarRest p .heading)
+    rests none = refl
+    rests (some n) = last (n - 1)
 
 -- the headings of the notes that have a place
 abbrev pub headingsOf : ℕ → List Note → List Heading
@@ -90,7 +136,7 @@ module _ (k : Attributes) (line : Part) where
   abbrev Holds : Pitch → List Note → Type 0
   Holds q l = Some (λ r. Some (λ a. a ≡ q) (r .pitches)) l
 
-  -- no token takes a pitch away
+  -- no step takes a pitch away
   keeps-pitch : (q : Pitch) (y : Item) (s : State) → Holds q (stored s) → Holds q (stored (step y s))
   unfolding step stateAfter
   keeps-pitch q y s h = go (isBarline (y .token))
@@ -132,80 +178,73 @@ module _ (k : Attributes) (line : Part) where
           (cond (not (c && endsInNote l)) new [] ++ withNotations (notationsNext (letter n) s) 0 (cond (c && endsInNote l) (addPitch (pitchOf s p n) l) l) ++ notesOf (s .bars))
       go false l = inl (inl q)
       go true [] = inl (inl q)
-      go true (r ∷ l) = arm (notationsNext (letter n) s) (not (eqb (r .heading .kind) 1)) r l (notesOf (s .bars))
-  has-pitch (y ∷ later) p o z n e h = keeps-pitch (backPitch k line e p n) y (stateAfter k (later ++ letterAt p o z n ∷ e)) (has-pitch later p o z n e (h .1))
+      go true (r ∷ l) = arm (notationsNext (letter n) s) (not (isRestKind (r .heading .kind))) r l (notesOf (s .bars))
+  has-pitch (y ∷ later) p o z n e h =
+      let q : Pitch = backPitch k line e p n in
+      each-turn (λ s. Holds q (stored s)) y (keeps-pitch q y) (keeps-pitch q (innerBarline y)) (furtherBars (y .token)) (stateAfter k (later ++ letterAt p o z n ∷ e)) (has-pitch later p o z n e (h .1))
 
   -- ---- a letter opens a record exactly when the look-back says so
 
-  -- a token leaves the stored headings alone and adds those of what it stores
-  pub headings-step : (x : Item) (s : State) → headings (stored (step x s)) ≡ headings (cond (isBarline (x .token)) [] (stores (x .place) (x .token) s)) ++ headings (stored s)
-  unfolding step stateAfter
-  headings-step x s = go (isBarline (x .token))
-    where
-      new : List Note
-      new = stores (x .place) (x .token) s
-
-      add : (a : Pitch) (l m : List Note) → headings (addPitch a l ++ m) ≡ headings (l ++ m)
-      add a [] m = refl
-      add a (n ∷ l) m = refl
-
-      renote : (f : ℕ → Note → Notations) (i : ℕ) (l m : List Note) → headings (withNotations f i l ++ m) ≡ headings (l ++ m)
-      renote f i [] m = refl
-      renote f i (n ∷ l) m = ap (λ r. n .heading ∷ r) (renote f (suc i) l m)
-
-      old : headings (older (x .place) (x .token) s ++ notesOf (s .bars)) ≡ headings (stored s)
-      old = renote (notationsNext (x .token) s) 0 (joined (x .place) (x .token) s) (notesOf (s .bars))
-          ∙ given-ind (λ l. headings (l ++ notesOf (s .bars)) ≡ headings (stored s)) (letterIn (x .token)) refl
-          (λ n. cond-ind (λ l. headings (l ++ notesOf (s .bars)) ≡ headings (stored s)) (joins s) (add _ (s .openBar) (notesOf (s .bars))) refl)
-
-      go : (b : Bool) → headings (cond b [] (new ++ older (x .place) (x .token) s) ++ notesOf (cond b (close (rightIn (x .token)) s) (s .bars))) ≡ headings (cond b [] new) ++ headings (stored s)
-      go true = ap headings (close-notes (rightIn (x .token)) s)
-      go false = ap headings (append-assoc new (older (x .place) (x .token) s) (notesOf (s .bars)))
-          ∙ map-append (λ (r : Note). r .heading) new (older (x .place) (x .token) s ++ notesOf (s .bars)) ∙ ap (λ l. headings new ++ l) old
-
   -- a token at another place stores nothing at p
-  elsewhere : (p : ℕ) (x : Item) (s : State) → x .place ≢ p → headingsOf p (stored (step x s)) ≡ headingsOf p (stored s)
-  elsewhere p x s d = ap (keep at) (headings-step x s) ∙ keep-++ at (headings new) (headings (stored s)) ∙ ap (λ l. l ++ headingsOf p (stored s)) (keep-none at (headings new) none-here)
-    where
-      at : Heading → Bool
-      at h = eqb (h .place) p
+  elsewhere : (p : ℕ) (x : Item) (e : List Item) → x .place ≢ p → headingsOf p (stored (stateAfter k (x ∷ e))) ≡ headingsOf p (stored (stateAfter k e))
+  unfolding stateAfter
+  elsewhere p x e d =
+      let s : State = stateAfter k e in
+      let new : List Heading = headings (storedBy x (furtherBars (x .token)) s) in
+      let at : Heading → Bool = λ h. eqb (h .place) p in
+      ap (keep at) (headings-turn x s) ∙ keep-++ at new (headings (stored s)) ∙ ap (λ l. l ++ headingsOf p (stored s)) (keep-none at new (all-imp (λ h e. no-eqb (λ f. d (sym e ∙ f))) new (stored-here x (furtherBars (x .token)) s)))
 
-      new : List Note
-      new = cond (isBarline (x .token)) [] (stores (x .place) (x .token) s)
-
-      none-here : All (λ h. T (not (at h))) (headings new)
-      none-here = all-map (λ (r : Note). r .heading) (λ h. T (not (at h))) new
-          (all-imp (λ r e. no-eqb (λ f. d (sym e ∙ f))) new (cond-ind (AllH (λ h. h .place ≡ x .place)) (isBarline (x .token)) tt (stores-here (x .place) (x .token) s)))
-
-  opening-at : (later : List Item) (p o z n : ℕ) (e : List Item) → Cut line (later ++ letterAt p o z n ∷ e)
-      → headingsOf p (stored (stateAfter k (later ++ letterAt p o z n ∷ e))) ≡ cond (backJoins k line e) [] (backHeading k line e p ∷ [])
-  unfolding step stateAfter
-  opening-at [] p o z n e h =
-      ap (keep at) (headings-step (letterAt p o z n) s) ∙ keep-++ at (headings (stores p (letter n) s)) (headings (stored s))
-      ∙ ap (λ l. keep at (headings (stores p (letter n) s)) ++ l) (keep-none at (headings (stored s)) none-yet)
-      ∙ append-nil _ ∙ mine (joins s)
-      ∙ λ i. cond (joins-agrees k line e (h .1) i) [] (heading-agrees k line e (h .1) p i ∷ [])
+  -- the records at a token's place are those that it stores
+  stored-at : (later : List Item) (x : Item) (e : List Item) → Cut line (later ++ x ∷ e)
+      → headingsOf (x .place) (stored (stateAfter k (later ++ x ∷ e))) ≡ headings (storedBy x (furtherBars (x .token)) (stateAfter k e))
+  unfolding stateAfter
+  stored-at [] x e h =
+      ap (keep at) (headings-turn x s) ∙ keep-++ at new (headings (stored s))
+      ∙ (λ i. keep-every at new all-mine i ++ keep-none at (headings (stored s)) none-yet i) ∙ append-nil new
     where
       s : State
       s = stateAfter k e
 
       at : Heading → Bool
-      at g = eqb (g .place) p
+      at g = eqb (g .place) (x .place)
+
+      new : List Heading
+      new = headings (storedBy x (furtherBars (x .token)) s)
+
+      all-mine : All (λ g. T (at g)) new
+      all-mine = all-imp (λ g f. yes-eqb f) new (stored-here x (furtherBars (x .token)) s)
 
       none-yet : All (λ g. T (not (at g))) (headings (stored s))
-      none-yet = all-map (λ (r : Note). r .heading) (λ g. T (not (at g))) (stored s)
-          (all-imp (λ r b. no-eqb (λ f. ⊥-of r b f)) (stored s) (places-till k e (ordered line e (h .1))))
+      none-yet = all-imp (λ g b. no-eqb (λ f. ⊥-of g b f)) (headings (stored s)) (places-till k e (ordered line e (h .1)))
         where
-          ⊥-of : (r : Note) → r .heading .place ≤ latestPlace e → r .heading .place ≡ p → ⊥
-          ⊥-of r b f = omega (arith, h .0)
-
-      mine : (j : Bool) → keep at (headings (cond (not j) (openedNote s p n ∷ []) [])) ≡ cond j [] (openedHeading s p ∷ [])
-      mine true = refl
-      mine false = λ i. cond (is-true (eqb p p) (eqb-refl p) i) (openedHeading s p ∷ []) []
-  opening-at (y ∷ later) p o z n e h = elsewhere p y (stateAfter k (later ++ letterAt p o z n ∷ e)) (λ d. above d) ∙ opening-at later p o z n e (h .1)
+          ⊥-of : (g : Heading) → g .place ≤ latestPlace e → g .place ≡ x .place → ⊥
+          ⊥-of g b f = omega (arith, h .0)
+  stored-at (y ∷ later) x e h = elsewhere (x .place) y (later ++ x ∷ e) (λ d. above d) ∙ stored-at later x e (h .1)
     where
-      above : y .place ≡ p → ⊥
-      above d = omega (arith, h .0, newest-above later (letterAt p o z n) e (ordered line (later ++ letterAt p o z n ∷ e) (h .1)))
+      above : y .place ≡ x .place → ⊥
+      above d = omega (arith, h .0, newest-above later x e (ordered line (later ++ x ∷ e) (h .1)))
+
+  opening-at : (later : List Item) (p o z n : ℕ) (e : List Item) → Cut line (later ++ letterAt p o z n ∷ e)
+      → headingsOf p (stored (stateAfter k (later ++ letterAt p o z n ∷ e))) ≡ cond (backJoins k line e) [] (backHeading k line e p ∷ [])
+  opening-at later p o z n e h = stored-at later (letterAt p o z n) e h ∙ mine (joins s) ∙ λ i. cond (joins-agrees k line e before i) [] (heading-agrees k line e before p i ∷ [])
+    where
+      s : State
+      s = stateAfter k e
+
+      before : Cut line e
+      before = cut-from line later (letterAt p o z n ∷ e) h .1
+
+      mine : (j : Bool) → headings (cond (not j) (openedNote s p n ∷ []) []) ≡ cond j [] (openedHeading s p ∷ [])
+      mine true = refl
+      mine false = refl
+
+  -- ---- an `=` stores its whole-bar rests
+
+  whole-at : (later : List Item) (x : Item) (e : List Item) → Cut line (later ++ x ∷ e) → begins (bytes "=") (textOf line x) ≡ true
+      → headingsOf (x .place) (stored (stateAfter k (later ++ x ∷ e))) ≡ replicate (wholeBarRests (textOf line x)) (wholeBarRest (x .place) .heading)
+  whole-at later x e h b =
+      let cut : Says (x .token) (textOf line x) = cut-from line later (x ∷ e) h .2 in
+      stored-at later x e h ∙ whole-bars x (stateAfter k e) (textOf line x) cut b ∙ ap (λ n. replicate n (wholeBarRest (x .place) .heading)) (cut .rests)
 
   -- the data's end moves the open bar's records to the stored bars, and changes none
   pub at-end : (e : List Item) → notesOf (barsAtEnd (stateAfter k e)) ≡ stored (stateAfter k e)
@@ -217,6 +256,8 @@ module _ (k : Attributes) (line : Part) where
     pub belongs : All (λ r. All (Heard all) (r .pitches)) notes
     pub one : (l m : Letter line all) → l .item .place ≡ m .item .place → (l .later ≡ m .later) × (l .item ≡ m .item) × (l .before ≡ m .before)
     pub opening : (l : Letter line all) → headingsOf (l .item .place) notes ≡ cond (backJoins k line (l .before)) [] (backHeading k line (l .before) (l .item .place) ∷ [])
+    pub wholeBars : (later : List Item) (x : Item) (before : List Item) → all ≡ later ++ x ∷ before → begins (bytes "=") (textOf line x) ≡ true
+        → headingsOf (x .place) notes ≡ replicate (wholeBarRests (textOf line x)) (wholeBarRest (x .place) .heading)
 
   -- for all tokens that are cut from the data: no refusal is used
   pub agreed : (all : List Item) → Cut line all → Agreed all (notesOf (barsAtEnd (stateAfter k all)))
@@ -226,4 +267,5 @@ module _ (k : Attributes) (line : Part) where
     one = λ l m q. one-place (l .later) (m .later) (l .item) (m .item) (l .before) (m .before) (subst Ordered (l .stands) (ordered line all h)) (sym (l .stands) ∙ m .stands) q;
     opening = λ l. ap (headingsOf (l .item .place)) (at-end all) ∙ subst (λ a. headingsOf (l .item .place) (stored (stateAfter k a)) ≡ cond (backJoins k line (l .before)) [] (backHeading k line (l .before) (l .item .place) ∷ [])) (sym (letter-stands line all h l))
         (opening-at (l .later) (l .item .place) (l .item .offset) (l .item .size) (l .step) (l .before) (subst (Cut line) (letter-stands line all h l) h));
+    wholeBars = λ later x before stands b. ap (headingsOf (x .place)) (at-end all) ∙ subst (λ a. headingsOf (x .place) (stored (stateAfter k a)) ≡ replicate (wholeBarRests (textOf line x)) (wholeBarRest (x .place) .heading)) (sym stands) (whole-at later x before (subst (Cut line) stands h) b);
   }

@@ -12,9 +12,9 @@ use lib.ListN.{length, take}
 use Rattle.rules.specs.Limits.{pitchCapacity, markCapacity}
 use Rattle.rules.specs.Tokens.{letterIn, Marking, beamOpen, beamClose, groupOpen, groupClose, groupCount, tie, trill, Item}
 use Rattle.rules.specs.Records.{isSome, given, Notations, Note}
-use Rattle.rules.specs.Rules.{pitchOf, endsInNote, joins, isNonGrace, nonGraceIn, notesFrom, withTieStart, withTuplet, withMark, Closing, nothing, fermata, tuplet, tooFew, tupletOf, closing, closed, closingOf, groupClosed, marked, withNotations, stateAfter, stored, Group, State, Attributes}
+use Rattle.rules.specs.Rules.{pitchOf, endsInNote, joins, isNonGrace, nonGraceIn, notesFrom, withTieStart, withTuplet, withMark, Closing, nothing, fermata, tuplet, tooFew, tupletOf, closing, closed, closingOf, groupClosed, marked, withNotations, furtherBars, stateAfter, stored, Group, State, Attributes}
 use Rattle.rules.specs.Fields.{dataOf}
-use Rattle.rules.specs.Refusals.{textRefusal, isFull, isMarkedFull, lastNonGrace, isFermata, overMarks, tokenChecks, tokenRefusal, tokensRefusal, refusalOf, LentRecords}
+use Rattle.rules.specs.Refusals.{textRefusal, isFull, isMarkedFull, lastNonGrace, isFermata, overMarks, tokenChecks, tokenRefusal, refusalAt, refusalInTurn, tokensRefusal, refusalOf, LentRecords}
 use Rattle.rules.specs.Reading.{lentRecords, attributesOf, tokensOf, recordsOf, reading, Lent}
 use Rattle.rules.specs.Agreement.{All}
 use Rattle.theorems.proofs.Lists.{cond-ind, given-ind}
@@ -121,9 +121,14 @@ module _ (lent : LentRecords) (k : Attributes) where
   unfolding tokensRefusal
   earlier x e o = or-none (tokensRefusal lent k e) _ o .0
 
+  -- the first turn passes
+  first-passes : (x : Item) (further : ℕ) (s : State) → refusalInTurn lent x further s ≡ none → refusalAt lent x s ≡ none
+  first-passes x zero s e = e
+  first-passes x (suc further) s e = first-passes x further s (or-none (refusalInTurn lent x further s) _ e .0)
+
   none-fails : (x : Item) (e : List Item) → Passes (x ∷ e) → All (λ c. c .1 ≡ false) (tokenChecks lent (x .token) (stateAfter k e))
   unfolding tokensRefusal
-  none-fails x e o = passed (tokenChecks lent (x .token) (stateAfter k e)) (given-none (tokenRefusal lent (x .token) (stateAfter k e)) _ (or-none (tokensRefusal lent k e) _ o .1))
+  none-fails x e o = passed (tokenChecks lent (x .token) (stateAfter k e)) (given-none (tokenRefusal lent (x .token) (stateAfter k e)) _ (first-passes x (furtherBars (x .token)) (stateAfter k e) (or-none (tokensRefusal lent k e) _ o .1)))
 
   pitches-kept : KeptPitches k Passes (λ e qs. length qs ≤ pitchCapacity)
   pitches-kept = record {
@@ -137,7 +142,7 @@ module _ (lent : LentRecords) (k : Attributes) where
       chord : (x : Item) (e : List Item) (n : ℕ) (r : Note) (l : List Note) → Passes (x ∷ e) → letterIn (x .token) ≡ some n → joins (stateAfter k e) ≡ true → stateAfter k e .openBar ≡ r ∷ l
           → length (r .pitches) ≤ pitchCapacity → length (pitchOf (stateAfter k e) (x .place) n ∷ r .pitches) ≤ pitchCapacity
       chord x e n r l o d j q h =
-          let room : leb pitchCapacity (length (r .pitches)) ≡ false = sym (λ i. isSome (d i) && j i && isFull (q i)) ∙ none-fails x e o .1 .1 .1 .0 in
+          let room : leb pitchCapacity (length (r .pitches)) ≡ false = sym (λ i. isSome (d i) && j i && isFull (q i)) ∙ none-fails x e o .1 .1 .0 in
           let less : length (r .pitches) < pitchCapacity = leb-no (rw room tt) in
           omega (arith, less)
 
@@ -147,9 +152,10 @@ module _ (lent : LentRecords) (k : Attributes) where
     more = λ x e r h. h;
     opened = λ x e n o l. omega arith;
     rested = λ x e. omega arith;
+    whole = λ x e. omega arith;
     repeats = λ x e r h. h;
     chord = λ x e n r l o d j q h. h;
-    marks = λ x e m o q. by-mark (stateAfter k e) m (sym (ap (λ a. given a false (λ m. overMarks m (stateAfter k e))) q) ∙ none-fails x e o .1 .1 .1 .1 .0);
+    marks = λ x e m o q. by-mark (stateAfter k e) m (sym (ap (λ a. given a false (λ m. overMarks m (stateAfter k e))) q) ∙ none-fails x e o .1 .1 .1 .0);
   }
 
 -- ---- of an accepted text

@@ -1,24 +1,25 @@
--- The note count: opened letters plus rests plus copies, the records with the place of an `f` or `i` (01, 'The look-back', 'What a reviewer will try'). Assumes nothing.
-use Prim.Native.Nat.{ℕ, suc, _+_, _<_, _≤_}
+-- The note count: opened letters plus rests plus whole-bar rests plus copies, the records with the place of an `f` or `i` (01, 'The look-back', 'What a reviewer will try'). Assumes nothing.
+use Prim.Native.Nat.{ℕ, suc, _+_, _-_, _<_, _≤_}
 use mathlib.Core.Path.{_≡_, refl, sym, ap, _∙_}
 use mathlib.Core.Bool.{Bool, true, false, not, cond, _&&_, _||_}
+use mathlib.Core.Option.{Option, none, some, Option·getD}
 use mathlib.Core.List.{List, [], _∷_, map}
 use native.Mathlib.Omega.{arith}
 use mir.Facts.{no-eqb}
 use lib.Dec.{eqb, eqb-refl}
 use lib.IntN.{pos}
-use lib.ListN.{length, length-append, length-map}
+use lib.ListN.{length, replicate, length-append, length-map, length-replicate}
 use Rattle.rules.specs.Text.{Part}
-use Rattle.rules.specs.Tokens.{latestPlace, Ordered, isRest, isBarline, figureIn, Figure, figureMark, figureRepeat, barRepeat, Token, Item, clef, key, meter, octave, duration, accidental, letter, chord, rest, barline, grace, graceGroup, figure, marking, other}
+use Rattle.rules.specs.Tokens.{latestPlace, Ordered, isRest, isBarline, figureIn, wholeBarsIn, Figure, figureMark, figureRepeat, barRepeat, Token, Item, clef, key, meter, octave, duration, accidental, letter, chord, rest, barline, grace, graceGroup, figure, marking, other}
 use Rattle.rules.specs.Records.{isSome, given, Heading, Note}
-use Rattle.rules.specs.Rules.{joins, opens, copied, repeated, stores, step, stateAfter, stored, State, Attributes}
-use Rattle.rules.specs.LookBack.{keep, textOf, isDash, isOpening}
-use Rattle.rules.specs.Agreement.{All, isRepeat, hasRepeat, openedLetters, restTokens}
-use Rattle.theorems.proofs.Lists.{is-true, is-false, cond-ind, all-imp, all-map, keep-++, keep-same}
-use Rattle.theorems.proofs.Places.{AllH, stores-here, places-till}
-use Rattle.theorems.proofs.Cutting.{repeatsIn, Cut, ordered}
+use Rattle.rules.specs.Rules.{joins, opens, copied, repeated, wholeBarRest, stores, furtherBars, stateAfter, stored, State, Attributes}
+use Rattle.rules.specs.LookBack.{keep, textOf, isDash, wholeBarRests, isOpening}
+use Rattle.rules.specs.Agreement.{All, isRepeat, hasRepeat, openedLetters, restTokens, wholeBarsStored}
+use Rattle.theorems.proofs.Lists.{is-true, is-false, all-imp, keep-++, keep-same}
+use Rattle.theorems.proofs.Cutting.{repeatsIn, restsIn, Cut, ordered}
+use Rattle.theorems.proofs.WholeBars.{wholeAt, by-turns}
+use Rattle.theorems.proofs.Places.{headings, storedBy, headings-turn, stored-here, places-till}
 use Rattle.theorems.proofs.FieldByField.{joins-agrees}
-use Rattle.theorems.proofs.Agreement.{headings, headings-step}
 
 -- 1 where the test holds
 one-if : Bool → ℕ
@@ -32,22 +33,42 @@ repeatsAmong line all hs = keep (λ h. hasRepeat line all (pos (h .place))) hs
 repeats : Token → State → ℕ
 repeats t s = given (figureIn t) 0 (λ f. length (repeated f s))
 
-stores-count : (p : ℕ) (t : Token) (s : State) → length (cond (isBarline t) [] (stores p t s)) ≡ one-if (opens t s) + one-if (isRest t) + repeats t s
+stores-count : (p : ℕ) (t : Token) (s : State) → length (cond (isBarline t) [] (stores p t s)) ≡ one-if (opens t s) + one-if (isRest t) + one-if (isSome (wholeBarsIn t)) + repeats t s
 unfolding one-if repeats
-stores-count p t s = elim t [ clef c ↦ refl | key k ↦ refl | meter m ↦ refl | octave o ↦ refl | duration q ↦ refl | accidental a ↦ refl | letter n ↦ note (not (joins s)) _ | chord ↦ refl | rest ↦ refl | barline r l ↦ refl | grace g ↦ refl | graceGroup g ↦ refl | figure f ↦ length-map (repeated f s) (copied p) ∙ omega arith | marking m ↦ refl | other o ↦ refl ]
+stores-count p t s = elim t [ clef c ↦ refl | key k ↦ refl | meter m ↦ refl | octave o ↦ refl | duration q ↦ refl | accidental a ↦ refl | letter n ↦ note (not (joins s)) _ | chord ↦ refl | rest ↦ refl | barline r l ↦ refl | grace g ↦ refl | graceGroup g ↦ refl | figure f ↦ length-map (repeated f s) (copied p) ∙ omega arith | marking m ↦ refl | other o ↦ whole (wholeBarsIn (other o)) ]
   where
-    note : (b : Bool) (r : Note) → length (cond b (r ∷ []) []) ≡ cond b 1 0 + 0 + 0
+    note : (b : Bool) (r : Note) → length (cond b (r ∷ []) []) ≡ cond b 1 0 + 0 + 0 + 0
     note true r = refl
     note false r = refl
 
+    whole : (c : Option ℕ) → length (cond (isSome c) (wholeBarRest p ∷ []) []) ≡ 0 + 0 + cond (isSome c) 1 0 + 0
+    whole none = refl
+    whole (some n) = refl
+
+-- over all its turns
+turns-count : (x : Item) (s : State) → length (storedBy x (furtherBars (x .token)) s) ≡ one-if (opens (x .token) s) + one-if (isRest (x .token)) + restsIn (x .token) + repeats (x .token) s
+unfolding one-if
+turns-count x s =
+    let new : List Note = cond (isBarline (x .token)) [] (stores (x .place) (x .token) s) in
+    let more : length (storedBy x (furtherBars (x .token)) s) ≡ furtherBars (x .token) + length new = length-append (replicate (furtherBars (x .token)) (wholeBarRest (x .place))) new ∙ ap (λ n. n + length new) (length-replicate (furtherBars (x .token)) (wholeBarRest (x .place))) in
+    omega (arith, more, stores-count (x .place) (x .token) s, rests (wholeBarsIn (x .token)))
+  where
+    rests : (c : Option ℕ) → (Option·getD c 1 - 1) + one-if (isSome c) ≡ given c 0 (λ n. suc (n - 1))
+    rests none = refl
+    rests (some n) = omega arith
+
 -- what a token stores are copies, if it is an `f` or `i`, and else none is
-copies-count : (p : ℕ) (t : Token) (s : State) → length (keep (λ h. repeatsIn t) (headings (cond (isBarline t) [] (stores p t s)))) ≡ repeats t s
+copies-one : (p : ℕ) (t : Token) (s : State) → length (keep (λ h. repeatsIn t) (headings (cond (isBarline t) [] (stores p t s)))) ≡ repeats t s
 unfolding repeats
-copies-count p t s = elim t [ clef c ↦ refl | key k ↦ refl | meter m ↦ refl | octave o ↦ refl | duration q ↦ refl | accidental a ↦ refl | letter n ↦ note (not (joins s)) _ | chord ↦ refl | rest ↦ refl | barline r l ↦ refl | grace g ↦ refl | graceGroup g ↦ refl | figure f ↦ of f | marking m ↦ refl | other o ↦ refl ]
+copies-one p t s = elim t [ clef c ↦ refl | key k ↦ refl | meter m ↦ refl | octave o ↦ refl | duration q ↦ refl | accidental a ↦ refl | letter n ↦ note (not (joins s)) _ | chord ↦ refl | rest ↦ refl | barline r l ↦ refl | grace g ↦ refl | graceGroup g ↦ refl | figure f ↦ of f | marking m ↦ refl | other o ↦ whole (wholeBarsIn (other o)) ]
   where
     note : (b : Bool) (r : Note) → length (keep (λ h. false) (headings (cond b (r ∷ []) []))) ≡ 0
     note true r = refl
     note false r = refl
+
+    whole : (c : Option ℕ) → length (keep (λ h. false) (headings (cond (isSome c) (wholeBarRest p ∷ []) []))) ≡ 0
+    whole none = refl
+    whole (some n) = refl
 
     each : (l : List Note) → length (keep (λ h. true) (headings (map (copied p) l))) ≡ length l
     each [] = refl
@@ -57,6 +78,14 @@ copies-count p t s = elim t [ clef c ↦ refl | key k ↦ refl | meter m ↦ ref
     of figureMark = refl
     of figureRepeat = each (repeated figureRepeat s)
     of barRepeat = each (repeated barRepeat s)
+
+copies-count : (x : Item) (s : State) → length (keep (λ h. repeatsIn (x .token)) (headings (storedBy x (furtherBars (x .token)) s))) ≡ repeats (x .token) s
+unfolding repeats
+copies-count x s = by-turns (λ x n. length (keep (λ h. repeatsIn (x .token)) (headings (storedBy x n s))) ≡ repeats (x .token) s) (λ x. copies-one (x .place) (x .token) s) (λ x n further. ap length (none-kept (headings (storedBy (wholeAt x n) (suc further) s)))) x
+  where
+    none-kept : (hs : List Heading) → keep (λ h. false) hs ≡ []
+    none-kept [] = refl
+    none-kept (h ∷ hs) = none-kept hs
 
 -- no token yet has a later place
 none-later : (line : Part) (e : List Item) → Ordered e → (p : ℕ) → latestPlace e < p → hasRepeat line e (pos p) ≡ false
@@ -71,22 +100,25 @@ none-later line (x ∷ e) h p l = rw (is-false (eqb p (x .place)) (no-eqb apart)
     and-false false = refl
 
 module _ (k : Attributes) (line : Part) where
-  -- the stored records are the opened letters, the rests and the copies
-  pub count-is : (e : List Item) → Cut line e → length (stored (stateAfter k e)) ≡ openedLetters k line e + restTokens line e + length (repeatsAmong line e (headings (stored (stateAfter k e))))
-  unfolding step stateAfter one-if
+  -- the stored records are the opened letters, the rests, the whole-bar rests and the copies
+  pub count-is : (e : List Item) → Cut line e → length (stored (stateAfter k e)) ≡ openedLetters k line e + restTokens line e + wholeBarsStored line e + length (repeatsAmong line e (headings (stored (stateAfter k e))))
+  unfolding stateAfter one-if
   count-is [] h = refl
   count-is (x ∷ e) h =
-      sym (length-map (stored (step x s)) heading) ∙ ap length (headings-step k line x s) ∙ length-append (headings new) (headings (stored s))
-      ∙ (λ i. (length-map new heading ∙ stores-count (x .place) (x .token) s) i + (length-map (stored s) heading ∙ count-is e (h .1)) i)
-      ∙ (λ i. one-if (isSome (h .2 .letter i) && not (joins-agrees k line e (h .1) i)) + one-if (h .2 .dash i) + repeats (x .token) s + (a + b + c))
-      ∙ add-up (isOpening k line x e) (isDash (textOf line x)) (repeats (x .token) s) a b c
-      ∙ ap (λ n. openedLetters k line (x ∷ e) + restTokens line (x ∷ e) + n) (sym copies)
+      sym (length-map (stored (stateAfter k (x ∷ e))) heading) ∙ ap length (headings-turn x s) ∙ length-append new (headings (stored s))
+      ∙ (λ i. (length-map (storedBy x further s) heading ∙ turns-count x s) i + (length-map (stored s) heading ∙ count-is e (h .1)) i)
+      ∙ (λ i. one-if (isSome (h .2 .letter i) && not (joins-agrees k line e (h .1) i)) + one-if (h .2 .dash i) + h .2 .rests i + repeats (x .token) s + (a + b + w + c))
+      ∙ add-up (isOpening k line x e) (isDash (textOf line x)) (wholeBarRests (textOf line x)) (repeats (x .token) s) a b w c
+      ∙ ap (λ n. openedLetters k line (x ∷ e) + restTokens line (x ∷ e) + wholeBarsStored line (x ∷ e) + n) (sym copies)
     where
       s : State
       s = stateAfter k e
 
-      new : List Note
-      new = cond (isBarline (x .token)) [] (stores (x .place) (x .token) s)
+      further : ℕ
+      further = furtherBars (x .token)
+
+      new : List Heading
+      new = headings (storedBy x further s)
 
       heading : Note → Heading
       heading r = r .heading
@@ -97,6 +129,9 @@ module _ (k : Attributes) (line : Part) where
       b : ℕ
       b = restTokens line e
 
+      w : ℕ
+      w = wholeBarsStored line e
+
       c : ℕ
       c = length (repeatsAmong line e (headings (stored s)))
 
@@ -104,35 +139,35 @@ module _ (k : Attributes) (line : Part) where
       now g = hasRepeat line (x ∷ e) (pos (g .place))
 
       old-same : All (λ g. now g ≡ hasRepeat line e (pos (g .place))) (headings (stored s))
-      old-same = all-map heading (λ g. now g ≡ hasRepeat line e (pos (g .place))) (stored s) (all-imp same (stored s) (places-till k e (ordered line e (h .1))))
+      old-same = all-imp same (headings (stored s)) (places-till k e (ordered line e (h .1)))
         where
-          apart : (r : Note) → r .heading .place ≤ latestPlace e → r .heading .place ≡ x .place → ⊥
-          apart r l f = omega (arith, h .0)
+          apart : (g : Heading) → g .place ≤ latestPlace e → g .place ≡ x .place → ⊥
+          apart g l f = omega (arith, h .0)
 
           and-false : (t o : Bool) → (t && false) || o ≡ o
           and-false true o = refl
           and-false false o = refl
 
-          same : (r : Note) → r .heading .place ≤ latestPlace e → now (r .heading) ≡ hasRepeat line e (pos (r .heading .place))
-          same r l = ap (λ t. (isRepeat (textOf line x) && t) || hasRepeat line e (pos (r .heading .place))) (is-false (eqb (r .heading .place) (x .place)) (no-eqb (apart r l))) ∙ and-false (isRepeat (textOf line x)) _
+          same : (g : Heading) → g .place ≤ latestPlace e → now g ≡ hasRepeat line e (pos (g .place))
+          same g l = ap (λ t. (isRepeat (textOf line x) && t) || hasRepeat line e (pos (g .place))) (is-false (eqb (g .place) (x .place)) (no-eqb (apart g l))) ∙ and-false (isRepeat (textOf line x)) _
 
-      new-same : All (λ g. now g ≡ isRepeat (textOf line x)) (headings new)
-      new-same = all-map heading (λ g. now g ≡ isRepeat (textOf line x)) new (all-imp same new (cond-ind (AllH (λ g. g .place ≡ x .place)) (isBarline (x .token)) tt (stores-here (x .place) (x .token) s)))
+      new-same : All (λ g. now g ≡ isRepeat (textOf line x)) new
+      new-same = all-imp same new (stored-here x further s)
         where
           and-true : (t : Bool) → (t && true) || false ≡ t
           and-true true = refl
           and-true false = refl
 
-          same : (r : Note) → r .heading .place ≡ x .place → now (r .heading) ≡ isRepeat (textOf line x)
-          same r q = ap (λ p. hasRepeat line (x ∷ e) (pos p)) q
+          same : (g : Heading) → g .place ≡ x .place → now g ≡ isRepeat (textOf line x)
+          same g q = ap (λ p. hasRepeat line (x ∷ e) (pos p)) q
               ∙ (λ i. (isRepeat (textOf line x) && is-true (eqb (x .place) (x .place)) (eqb-refl (x .place)) i) || none-later line e (ordered line e (h .1)) (x .place) (h .0) i) ∙ and-true (isRepeat (textOf line x))
 
-      copies : length (repeatsAmong line (x ∷ e) (headings (stored (step x s)))) ≡ repeats (x .token) s + c
-      copies = ap (λ l. length (keep now l)) (headings-step k line x s) ∙ ap length (keep-++ now (headings new) (headings (stored s))) ∙ length-append (keep now (headings new)) (keep now (headings (stored s)))
-          ∙ λ i. (ap length (keep-same now (λ g. isRepeat (textOf line x)) (headings new) new-same) ∙ ap (λ t. length (keep (λ g. t) (headings new))) (sym (h .2 .copy)) ∙ copies-count (x .place) (x .token) s) i + length (keep-same now (λ g. hasRepeat line e (pos (g .place))) (headings (stored s)) old-same i)
+      copies : length (repeatsAmong line (x ∷ e) (headings (stored (stateAfter k (x ∷ e))))) ≡ repeats (x .token) s + c
+      copies = ap (λ l. length (keep now l)) (headings-turn x s) ∙ ap length (keep-++ now new (headings (stored s))) ∙ length-append (keep now new) (keep now (headings (stored s)))
+          ∙ λ i. (ap length (keep-same now (λ g. isRepeat (textOf line x)) new new-same) ∙ ap (λ t. length (keep (λ g. t) new)) (sym (h .2 .copy)) ∙ copies-count x s) i + length (keep-same now (λ g. hasRepeat line e (pos (g .place))) (headings (stored s)) old-same i)
 
-      add-up : (o r : Bool) (m n₁ n₂ n₃ : ℕ) → one-if o + one-if r + m + (n₁ + n₂ + n₃) ≡ cond o (suc n₁) n₁ + cond r (suc n₂) n₂ + (m + n₃)
-      add-up true true m n₁ n₂ n₃ = omega arith
-      add-up true false m n₁ n₂ n₃ = omega arith
-      add-up false true m n₁ n₂ n₃ = omega arith
-      add-up false false m n₁ n₂ n₃ = omega arith
+      add-up : (o r : Bool) (v m n₁ n₂ n₃ n₄ : ℕ) → one-if o + one-if r + v + m + (n₁ + n₂ + n₃ + n₄) ≡ cond o (suc n₁) n₁ + cond r (suc n₂) n₂ + (v + n₃) + (m + n₄)
+      add-up true true v m n₁ n₂ n₃ n₄ = omega arith
+      add-up true false v m n₁ n₂ n₃ n₄ = omega arith
+      add-up false true v m n₁ n₂ n₃ n₄ = omega arith
+      add-up false false v m n₁ n₂ n₃ n₄ = omega arith

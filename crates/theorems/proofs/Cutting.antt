@@ -4,28 +4,33 @@ use Prim.Native.Char.{code}
 use mathlib.Core.Path.{_≡_, refl, sym, ap, _∙_, subst}
 use mathlib.Core.Bool.{Bool, true, false, cond, _&&_}
 use mathlib.Core.Logic.{_⊎_, inl, inr, _≢_}
-use mathlib.Core.Option.{none, some}
+use mathlib.Core.Option.{Option, none, some, Option·getD}
 use mathlib.Core.List.{List, [], _∷_, _++_}
 use native.Mathlib.Omega.{arith}
 use mir.Facts.{no-eqb, leb-yes, eqb-no}
 use lib.Dec.{eqb, leb, ltb, eqb→eq}
 use lib.ListN.{length, take, drop}
 use lib.Seq.{drop-drop}
-use Rattle.rules.specs.Text.{bytes, among, isDigit, isNoteLetter, runLength, begins, Part}
+use Rattle.rules.specs.Text.{bytes, among, isDigit, isNoteLetter, runLength, every, begins, Part}
 use Rattle.rules.specs.Characters.{characterSize, begun, isBlank}
 use Rattle.rules.specs.Cut.{tokenSize}
-use Rattle.rules.specs.Values.{sharpened, flattened}
-use Rattle.rules.specs.Tokens.{colons, grace, graceGroup, figureMark, figureRepeat, barRepeat, itemAt, itemsAfter, latestPlace, Ordered, Item, Token, tokenOf, accidentalIn, letterIn, graceIn, graceGroupIn, isBarline, isChord, isRest, figureIn}
+use Rattle.rules.specs.Limits.{wholeBarLimit}
+use Rattle.rules.specs.Values.{decimalFrom, numberTo, wholeBarsOf, sharpened, flattened}
+use Rattle.rules.specs.Tokens.{colons, grace, graceGroup, figureMark, figureRepeat, barRepeat, itemAt, itemsAfter, latestPlace, Ordered, Item, Token, tokenOf, accidentalIn, letterIn, graceIn, graceGroupIn, isBarline, isChord, isRest, figureIn, wholeBarsIn}
 use Rattle.rules.specs.Records.{given}
 use Rattle.rules.specs.Fields.{dataOf}
 use Rattle.rules.specs.Reading.{tokensOf}
-use Rattle.rules.specs.LookBack.{textOf, letterOf, signOf, graceOf, groupOf, isBar, isCaret, isDash}
+use Rattle.rules.specs.LookBack.{textOf, letterOf, signOf, graceOf, groupOf, isBar, isCaret, isDash, wholeBarRests}
 use Rattle.rules.specs.Agreement.{All, Some, isRepeat}
 use Rattle.theorems.proofs.Lists.{is-false, cond-ind}
 
 -- an `f` or `i`
 abbrev pub repeatsIn : Token → Bool
 repeatsIn t = given (figureIn t) false (λ f. elim f [ figureMark ↦ false | figureRepeat ↦ true | barRepeat ↦ true ])
+
+-- how many whole-bar rests a token stores
+abbrev pub restsIn : Token → ℕ
+restsIn t = given (wholeBarsIn t) 0 (λ n. suc (n - 1))
 
 -- what a token is, as its text says it
 pub record Says (t : Token) (text : List ℕ) : Type 0 where
@@ -37,6 +42,7 @@ pub record Says (t : Token) (text : List ℕ) : Type 0 where
   pub caret : isChord t ≡ isCaret text
   pub dash : isRest t ≡ isDash text
   pub copy : repeatsIn t ≡ isRepeat text
+  pub rests : restsIn t ≡ wholeBarRests text
 
 -- places rise from token to token, and each is what its text says
 abbrev pub Cut : Part → List Item → Type 0
@@ -47,9 +53,9 @@ pub ordered : (line : Part) (e : List Item) → Cut line e → Ordered e
 ordered line [] h = tt
 ordered line (x ∷ e) h = (h .0, ordered line e (h .1))
 
-pub cut-at : (line : Part) (later : List Item) (x : Item) (e : List Item) → Cut line (later ++ x ∷ e) → Says (x .token) (textOf line x)
-cut-at line [] x e h = h .2
-cut-at line (y ∷ later) x e h = cut-at line later x e (h .1)
+pub cut-from : (line : Part) (later e : List Item) → Cut line (later ++ e) → Cut line e
+cut-from line [] e h = h
+cut-from line (y ∷ later) e h = cut-from line later e (h .1)
 
 -- ---- a token has a byte or more
 
@@ -114,44 +120,44 @@ flat-is (c ∷ bs) = go (eqb c (code "b")) refl
 -- `q`, `qq`
 grace-is : (bs : List ℕ) → Says (tokenOf (code "q") (tail (code "q") bs)) (code "q" ∷ tail (code "q") bs)
 unfolding tokenSize tokenOf
-grace-is [] = record { letter = refl; sign = refl; grace = refl; group = refl; bar = refl; caret = refl; dash = refl; copy = refl }
+grace-is [] = record { letter = refl; sign = refl; grace = refl; group = refl; bar = refl; caret = refl; dash = refl; copy = refl; rests = refl }
 grace-is (c ∷ bs) = go (eqb c (code "q")) refl
   where
     Of : ℕ → Type 0
     Of n = Says (cond (eqb (1 + length (take (n - 1) (c ∷ bs))) 1) (grace false) (graceGroup true)) (code "q" ∷ take (n - 1) (c ∷ bs))
 
     go : (t : Bool) → eqb c (code "q") ≡ t → Of (cond (t && true) 2 1)
-    go true e = record { letter = refl; sign = refl; grace = rw e; group = rw e; bar = refl; caret = refl; dash = refl; copy = refl }
-    go false e = record { letter = refl; sign = refl; grace = refl; group = refl; bar = refl; caret = refl; dash = refl; copy = refl }
+    go true e = record { letter = refl; sign = refl; grace = rw e; group = rw e; bar = refl; caret = refl; dash = refl; copy = refl; rests = refl }
+    go false e = record { letter = refl; sign = refl; grace = refl; group = refl; bar = refl; caret = refl; dash = refl; copy = refl; rests = refl }
 
 -- `:`, `://`, `://:`
 colon-is : (bs : List ℕ) → Says (tokenOf (code ":") (tail (code ":") bs)) (code ":" ∷ tail (code ":") bs)
 unfolding tokenSize tokenOf
-colon-is [] = record { letter = refl; sign = refl; grace = refl; group = refl; bar = refl; caret = refl; dash = refl; copy = refl }
+colon-is [] = record { letter = refl; sign = refl; grace = refl; group = refl; bar = refl; caret = refl; dash = refl; copy = refl; rests = refl }
 colon-is (c ∷ bs) = first (eqb c (code "/")) refl
   where
     Of : List ℕ → ℕ → Type 0
     Of cs n = Says (colons (1 + length (take (n - 1) cs))) (code ":" ∷ take (n - 1) cs)
 
     third : (bs : List ℕ) → Of (code "/" ∷ code "/" ∷ bs) (cond (begins (bytes ":") bs) 4 3)
-    third [] = record { letter = refl; sign = refl; grace = refl; group = refl; bar = refl; caret = refl; dash = refl; copy = refl }
+    third [] = record { letter = refl; sign = refl; grace = refl; group = refl; bar = refl; caret = refl; dash = refl; copy = refl; rests = refl }
     third (e ∷ bs) = go (eqb e (code ":"))
       where
         go : (t : Bool) → Of (code "/" ∷ code "/" ∷ e ∷ bs) (cond (t && true) 4 3)
-        go true = record { letter = refl; sign = refl; grace = refl; group = refl; bar = refl; caret = refl; dash = refl; copy = refl }
-        go false = record { letter = refl; sign = refl; grace = refl; group = refl; bar = refl; caret = refl; dash = refl; copy = refl }
+        go true = record { letter = refl; sign = refl; grace = refl; group = refl; bar = refl; caret = refl; dash = refl; copy = refl; rests = refl }
+        go false = record { letter = refl; sign = refl; grace = refl; group = refl; bar = refl; caret = refl; dash = refl; copy = refl; rests = refl }
 
     second : (bs : List ℕ) → Of (code "/" ∷ bs) (cond (begins (bytes "/:") bs) 4 (cond (begins (bytes "/") bs) 3 1))
-    second [] = record { letter = refl; sign = refl; grace = refl; group = refl; bar = refl; caret = refl; dash = refl; copy = refl }
+    second [] = record { letter = refl; sign = refl; grace = refl; group = refl; bar = refl; caret = refl; dash = refl; copy = refl; rests = refl }
     second (d ∷ bs) = go (eqb d (code "/")) refl
       where
         go : (t : Bool) → eqb d (code "/") ≡ t → Of (code "/" ∷ d ∷ bs) (cond (t && begins (bytes ":") bs) 4 (cond (t && true) 3 1))
         go true e = subst (λ x. Of (code "/" ∷ x ∷ bs) (cond (begins (bytes ":") bs) 4 3)) (sym (eqb→eq d (code "/") (rw e tt))) (third bs)
-        go false e = record { letter = refl; sign = refl; grace = refl; group = refl; bar = refl; caret = refl; dash = refl; copy = refl }
+        go false e = record { letter = refl; sign = refl; grace = refl; group = refl; bar = refl; caret = refl; dash = refl; copy = refl; rests = refl }
 
     first : (t : Bool) → eqb c (code "/") ≡ t → Of (c ∷ bs) (cond (t && begins (bytes "/:") bs) 4 (cond (t && begins (bytes "/") bs) 3 1))
     first true e = subst (λ x. Of (x ∷ bs) (cond (begins (bytes "/:") bs) 4 (cond (begins (bytes "/") bs) 3 1))) (sym (eqb→eq c (code "/") (rw e tt))) (second bs)
-    first false e = record { letter = refl; sign = refl; grace = refl; group = refl; bar = refl; caret = refl; dash = refl; copy = refl }
+    first false e = record { letter = refl; sign = refl; grace = refl; group = refl; bar = refl; caret = refl; dash = refl; copy = refl; rests = refl }
 
 -- `/`, `//`, `//:`
 slash-is : (bs : List ℕ) → Says (tokenOf (code "/") (tail (code "/") bs)) (code "/" ∷ tail (code "/") bs)
@@ -159,13 +165,35 @@ unfolding tokenOf
 slash-is bs =
     let text : List ℕ = code "/" ∷ tail (code "/") bs in
     let size : ℕ = 1 + length (tail (code "/") bs) in
-    cond-ind (λ t. Says t text) (eqb size 1) record { letter = refl; sign = refl; grace = refl; group = refl; bar = refl; caret = refl; dash = refl; copy = refl } (cond-ind (λ t. Says t text) (eqb size 2) record { letter = refl; sign = refl; grace = refl; group = refl; bar = refl; caret = refl; dash = refl; copy = refl } record { letter = refl; sign = refl; grace = refl; group = refl; bar = refl; caret = refl; dash = refl; copy = refl })
+    cond-ind (λ t. Says t text) (eqb size 1) record { letter = refl; sign = refl; grace = refl; group = refl; bar = refl; caret = refl; dash = refl; copy = refl; rests = refl } (cond-ind (λ t. Says t text) (eqb size 2) record { letter = refl; sign = refl; grace = refl; group = refl; bar = refl; caret = refl; dash = refl; copy = refl; rests = refl } record { letter = refl; sign = refl; grace = refl; group = refl; bar = refl; caret = refl; dash = refl; copy = refl; rests = refl })
+
+-- a count is not 0
+rests-are : (cs : List ℕ) → given (wholeBarsOf cs) 0 (λ n. suc (n - 1)) ≡ Option·getD (wholeBarsOf cs) 0
+unfolding wholeBarsOf
+rests-are [] = refl
+rests-are (d ∷ ds) = go (eqb number 0) refl
+  where
+    number : ℕ
+    number = decimalFrom 0 (d ∷ ds)
+
+    Same : Option ℕ → Type 0
+    Same o = given o 0 (λ n. suc (n - 1)) ≡ Option·getD o 0
+
+    go : (b : Bool) → eqb number 0 ≡ b → Same (cond b none (numberTo wholeBarLimit (d ∷ ds)))
+    go true e = refl
+    go false e =
+        let some-bar : number ≢ 0 = eqb-no (rw e tt) in
+        let same : suc (number - 1) ≡ number = omega (arith, some-bar) in
+        cond-ind Same (ltb 0 (length (d ∷ ds)) && every isDigit (d ∷ ds) && leb number wholeBarLimit) same refl
 
 -- ---- every token
 
--- the first bytes that the look-back knows
+-- the first bytes that the look-back knows, beside `=`
+abbrev signs : List ℕ
+signs = bytes "xbn^-/:gqrfiCDEFGAB"
+
 abbrev known : List ℕ
-known = bytes "xbn^-/:gqrfiCDEFGAB"
+known = code "=" ∷ signs
 
 -- a byte is one of these, or none
 one-of : (b : ℕ) (ks : List ℕ) → Some (λ n. n ≡ b) ks ⊎ All (λ n. eqb b n ≡ false) ks
@@ -207,32 +235,32 @@ record Quiet (t : Token) : Type 0 where
   caret : isChord t ≡ false
   dash : isRest t ≡ false
   copy : repeatsIn t ≡ false
+  rests : restsIn t ≡ 0
 
 -- any other byte
-quiet-token : (b : ℕ) (cs : List ℕ) → All (λ n. eqb b n ≡ false) known → Quiet (tokenOf b cs)
+quiet-token : (b : ℕ) (cs : List ℕ) → eqb b (code "=") ≡ false → All (λ n. eqb b n ≡ false) signs → Quiet (tokenOf b cs)
 unfolding tokenOf
-quiet-token b cs n = rw (n .0, n .1 .0, n .1 .1 .0, n .1 .1 .1 .0, n .1 .1 .1 .1 .0, n .1 .1 .1 .1 .1 .0, n .1 .1 .1 .1 .1 .1 .0, n .1 .1 .1 .1 .1 .1 .1 .0, n .1 .1 .1 .1 .1 .1 .1 .1 .0, n .1 .1 .1 .1 .1 .1 .1 .1 .1 .0, n .1 .1 .1 .1 .1 .1 .1 .1 .1 .1 .0, n .1 .1 .1 .1 .1 .1 .1 .1 .1 .1 .1 .0, no-letter b (n .1 .1 .1 .1 .1 .1 .1 .1 .1 .1 .1 .1))
-    (cond-ind Quiet (eqb b (code "%")) record { letter = refl; sign = refl; grace = refl; group = refl; bar = refl; caret = refl; dash = refl; copy = refl }
-    (cond-ind Quiet (eqb b (code "$")) record { letter = refl; sign = refl; grace = refl; group = refl; bar = refl; caret = refl; dash = refl; copy = refl }
-    (cond-ind Quiet (eqb b (code "@")) record { letter = refl; sign = refl; grace = refl; group = refl; bar = refl; caret = refl; dash = refl; copy = refl }
-    (cond-ind Quiet (eqb b (code "'")) record { letter = refl; sign = refl; grace = refl; group = refl; bar = refl; caret = refl; dash = refl; copy = refl }
-    (cond-ind Quiet (eqb b (code ",")) record { letter = refl; sign = refl; grace = refl; group = refl; bar = refl; caret = refl; dash = refl; copy = refl }
-    (cond-ind Quiet (isDigit b) record { letter = refl; sign = refl; grace = refl; group = refl; bar = refl; caret = refl; dash = refl; copy = refl }
-    (cond-ind Quiet (eqb b (code "!")) record { letter = refl; sign = refl; grace = refl; group = refl; bar = refl; caret = refl; dash = refl; copy = refl }
-    (cond-ind Quiet (eqb b (code "{")) record { letter = refl; sign = refl; grace = refl; group = refl; bar = refl; caret = refl; dash = refl; copy = refl }
-    (cond-ind Quiet (eqb b (code "}")) record { letter = refl; sign = refl; grace = refl; group = refl; bar = refl; caret = refl; dash = refl; copy = refl }
-    (cond-ind Quiet (eqb b (code "(")) record { letter = refl; sign = refl; grace = refl; group = refl; bar = refl; caret = refl; dash = refl; copy = refl }
-    (cond-ind Quiet (eqb b (code ";")) record { letter = refl; sign = refl; grace = refl; group = refl; bar = refl; caret = refl; dash = refl; copy = refl }
-    (cond-ind Quiet (eqb b (code ")")) record { letter = refl; sign = refl; grace = refl; group = refl; bar = refl; caret = refl; dash = refl; copy = refl }
-    (cond-ind Quiet (eqb b (code "+")) record { letter = refl; sign = refl; grace = refl; group = refl; bar = refl; caret = refl; dash = refl; copy = refl }
-    (cond-ind Quiet (eqb b (code "t")) record { letter = refl; sign = refl; grace = refl; group = refl; bar = refl; caret = refl; dash = refl; copy = refl }
-    (cond-ind Quiet (eqb b (code "=")) record { letter = refl; sign = refl; grace = refl; group = refl; bar = refl; caret = refl; dash = refl; copy = refl }
-    (cond-ind Quiet (isBlank (b ∷ cs)) record { letter = refl; sign = refl; grace = refl; group = refl; bar = refl; caret = refl; dash = refl; copy = refl }
-    record { letter = refl; sign = refl; grace = refl; group = refl; bar = refl; caret = refl; dash = refl; copy = refl }))))))))))))))))
+quiet-token b cs e n = rw (e, n .0, n .1 .0, n .1 .1 .0, n .1 .1 .1 .0, n .1 .1 .1 .1 .0, n .1 .1 .1 .1 .1 .0, n .1 .1 .1 .1 .1 .1 .0, n .1 .1 .1 .1 .1 .1 .1 .0, n .1 .1 .1 .1 .1 .1 .1 .1 .0, n .1 .1 .1 .1 .1 .1 .1 .1 .1 .0, n .1 .1 .1 .1 .1 .1 .1 .1 .1 .1 .0, n .1 .1 .1 .1 .1 .1 .1 .1 .1 .1 .1 .0, no-letter b (n .1 .1 .1 .1 .1 .1 .1 .1 .1 .1 .1 .1))
+    (cond-ind Quiet (eqb b (code "%")) record { letter = refl; sign = refl; grace = refl; group = refl; bar = refl; caret = refl; dash = refl; copy = refl; rests = refl }
+    (cond-ind Quiet (eqb b (code "$")) record { letter = refl; sign = refl; grace = refl; group = refl; bar = refl; caret = refl; dash = refl; copy = refl; rests = refl }
+    (cond-ind Quiet (eqb b (code "@")) record { letter = refl; sign = refl; grace = refl; group = refl; bar = refl; caret = refl; dash = refl; copy = refl; rests = refl }
+    (cond-ind Quiet (eqb b (code "'")) record { letter = refl; sign = refl; grace = refl; group = refl; bar = refl; caret = refl; dash = refl; copy = refl; rests = refl }
+    (cond-ind Quiet (eqb b (code ",")) record { letter = refl; sign = refl; grace = refl; group = refl; bar = refl; caret = refl; dash = refl; copy = refl; rests = refl }
+    (cond-ind Quiet (isDigit b) record { letter = refl; sign = refl; grace = refl; group = refl; bar = refl; caret = refl; dash = refl; copy = refl; rests = refl }
+    (cond-ind Quiet (eqb b (code "!")) record { letter = refl; sign = refl; grace = refl; group = refl; bar = refl; caret = refl; dash = refl; copy = refl; rests = refl }
+    (cond-ind Quiet (eqb b (code "{")) record { letter = refl; sign = refl; grace = refl; group = refl; bar = refl; caret = refl; dash = refl; copy = refl; rests = refl }
+    (cond-ind Quiet (eqb b (code "}")) record { letter = refl; sign = refl; grace = refl; group = refl; bar = refl; caret = refl; dash = refl; copy = refl; rests = refl }
+    (cond-ind Quiet (eqb b (code "(")) record { letter = refl; sign = refl; grace = refl; group = refl; bar = refl; caret = refl; dash = refl; copy = refl; rests = refl }
+    (cond-ind Quiet (eqb b (code ";")) record { letter = refl; sign = refl; grace = refl; group = refl; bar = refl; caret = refl; dash = refl; copy = refl; rests = refl }
+    (cond-ind Quiet (eqb b (code ")")) record { letter = refl; sign = refl; grace = refl; group = refl; bar = refl; caret = refl; dash = refl; copy = refl; rests = refl }
+    (cond-ind Quiet (eqb b (code "+")) record { letter = refl; sign = refl; grace = refl; group = refl; bar = refl; caret = refl; dash = refl; copy = refl; rests = refl }
+    (cond-ind Quiet (eqb b (code "t")) record { letter = refl; sign = refl; grace = refl; group = refl; bar = refl; caret = refl; dash = refl; copy = refl; rests = refl }
+    (cond-ind Quiet (isBlank (b ∷ cs)) record { letter = refl; sign = refl; grace = refl; group = refl; bar = refl; caret = refl; dash = refl; copy = refl; rests = refl }
+    record { letter = refl; sign = refl; grace = refl; group = refl; bar = refl; caret = refl; dash = refl; copy = refl; rests = refl })))))))))))))))
 
-other-is : (b : ℕ) (cs : List ℕ) → All (λ n. eqb b n ≡ false) known → Says (tokenOf b cs) (b ∷ cs)
-other-is b cs n =
-    let q : Quiet (tokenOf b cs) = quiet-token b cs n in
+other-is : (b : ℕ) (cs : List ℕ) → eqb b (code "=") ≡ false → All (λ n. eqb b n ≡ false) signs → Says (tokenOf b cs) (b ∷ cs)
+other-is b cs e n =
+    let q : Quiet (tokenOf b cs) = quiet-token b cs e n in
     record {
       letter = q .letter ∙ rw (n .1 .1 .1 .1 .1 .1 .1 .1 .1 .1 .1 .1 .0, n .1 .1 .1 .1 .1 .1 .1 .1 .1 .1 .1 .1 .1 .0, n .1 .1 .1 .1 .1 .1 .1 .1 .1 .1 .1 .1 .1 .1 .0, n .1 .1 .1 .1 .1 .1 .1 .1 .1 .1 .1 .1 .1 .1 .1 .0, n .1 .1 .1 .1 .1 .1 .1 .1 .1 .1 .1 .1 .1 .1 .1 .1 .0, n .1 .1 .1 .1 .1 .1 .1 .1 .1 .1 .1 .1 .1 .1 .1 .1 .1 .0, n .1 .1 .1 .1 .1 .1 .1 .1 .1 .1 .1 .1 .1 .1 .1 .1 .1 .1 .0);
       sign = q .sign ∙ rw (n .0, n .1 .0, n .1 .1 .0);
@@ -242,6 +270,7 @@ other-is b cs n =
       caret = q .caret ∙ rw (n .1 .1 .1 .0);
       dash = q .dash ∙ rw (n .1 .1 .1 .1 .0);
       copy = q .copy ∙ rw (n .1 .1 .1 .1 .1 .1 .1 .1 .1 .1 .0, n .1 .1 .1 .1 .1 .1 .1 .1 .1 .1 .1 .0);
+      rests = q .rests ∙ rw e;
     }
 
 says : (b : ℕ) (bs : List ℕ) → Says (tokenOf b (tail b bs)) (b ∷ tail b bs)
@@ -250,8 +279,8 @@ says b bs = go (one-of b known)
   where
     go : Some (λ n. n ≡ b) known ⊎ All (λ n. eqb b n ≡ false) known → Says (tokenOf b (tail b bs)) (b ∷ tail b bs)
     go (inl f) = found (λ c. Says (tokenOf c (tail c bs)) (c ∷ tail c bs)) b known
-        (record { letter = refl; sign = sharp-is bs; grace = refl; group = refl; bar = refl; caret = refl; dash = refl; copy = refl }, (record { letter = refl; sign = flat-is bs; grace = refl; group = refl; bar = refl; caret = refl; dash = refl; copy = refl }, (record { letter = refl; sign = refl; grace = refl; group = refl; bar = refl; caret = refl; dash = refl; copy = refl }, (record { letter = refl; sign = refl; grace = refl; group = refl; bar = refl; caret = refl; dash = refl; copy = refl }, (record { letter = refl; sign = refl; grace = refl; group = refl; bar = refl; caret = refl; dash = refl; copy = refl }, (slash-is bs, (colon-is bs, (record { letter = refl; sign = refl; grace = refl; group = refl; bar = refl; caret = refl; dash = refl; copy = refl }, (grace-is bs, (record { letter = refl; sign = refl; grace = refl; group = refl; bar = refl; caret = refl; dash = refl; copy = refl }, (record { letter = refl; sign = refl; grace = refl; group = refl; bar = refl; caret = refl; dash = refl; copy = refl }, (record { letter = refl; sign = refl; grace = refl; group = refl; bar = refl; caret = refl; dash = refl; copy = refl }, (record { letter = refl; sign = refl; grace = refl; group = refl; bar = refl; caret = refl; dash = refl; copy = refl }, (record { letter = refl; sign = refl; grace = refl; group = refl; bar = refl; caret = refl; dash = refl; copy = refl }, (record { letter = refl; sign = refl; grace = refl; group = refl; bar = refl; caret = refl; dash = refl; copy = refl }, (record { letter = refl; sign = refl; grace = refl; group = refl; bar = refl; caret = refl; dash = refl; copy = refl }, (record { letter = refl; sign = refl; grace = refl; group = refl; bar = refl; caret = refl; dash = refl; copy = refl }, (record { letter = refl; sign = refl; grace = refl; group = refl; bar = refl; caret = refl; dash = refl; copy = refl }, (record { letter = refl; sign = refl; grace = refl; group = refl; bar = refl; caret = refl; dash = refl; copy = refl }, tt))))))))))))))))))) f
-    go (inr n) = other-is b (tail b bs) n
+        (record { letter = refl; sign = refl; grace = refl; group = refl; bar = refl; caret = refl; dash = refl; copy = refl; rests = rests-are (tail (code "=") bs) }, (record { letter = refl; sign = sharp-is bs; grace = refl; group = refl; bar = refl; caret = refl; dash = refl; copy = refl; rests = refl }, (record { letter = refl; sign = flat-is bs; grace = refl; group = refl; bar = refl; caret = refl; dash = refl; copy = refl; rests = refl }, (record { letter = refl; sign = refl; grace = refl; group = refl; bar = refl; caret = refl; dash = refl; copy = refl; rests = refl }, (record { letter = refl; sign = refl; grace = refl; group = refl; bar = refl; caret = refl; dash = refl; copy = refl; rests = refl }, (record { letter = refl; sign = refl; grace = refl; group = refl; bar = refl; caret = refl; dash = refl; copy = refl; rests = refl }, (slash-is bs, (colon-is bs, (record { letter = refl; sign = refl; grace = refl; group = refl; bar = refl; caret = refl; dash = refl; copy = refl; rests = refl }, (grace-is bs, (record { letter = refl; sign = refl; grace = refl; group = refl; bar = refl; caret = refl; dash = refl; copy = refl; rests = refl }, (record { letter = refl; sign = refl; grace = refl; group = refl; bar = refl; caret = refl; dash = refl; copy = refl; rests = refl }, (record { letter = refl; sign = refl; grace = refl; group = refl; bar = refl; caret = refl; dash = refl; copy = refl; rests = refl }, (record { letter = refl; sign = refl; grace = refl; group = refl; bar = refl; caret = refl; dash = refl; copy = refl; rests = refl }, (record { letter = refl; sign = refl; grace = refl; group = refl; bar = refl; caret = refl; dash = refl; copy = refl; rests = refl }, (record { letter = refl; sign = refl; grace = refl; group = refl; bar = refl; caret = refl; dash = refl; copy = refl; rests = refl }, (record { letter = refl; sign = refl; grace = refl; group = refl; bar = refl; caret = refl; dash = refl; copy = refl; rests = refl }, (record { letter = refl; sign = refl; grace = refl; group = refl; bar = refl; caret = refl; dash = refl; copy = refl; rests = refl }, (record { letter = refl; sign = refl; grace = refl; group = refl; bar = refl; caret = refl; dash = refl; copy = refl; rests = refl }, (record { letter = refl; sign = refl; grace = refl; group = refl; bar = refl; caret = refl; dash = refl; copy = refl; rests = refl }, tt)))))))))))))))))))) f
+    go (inr n) = other-is b (tail b bs) (n .0) (n .1)
 
 -- ---- the data's tokens
 

@@ -1,20 +1,24 @@
 -- The state after a list of tokens is what the look-back says of that list, field by field. Assumes nothing.
-use Prim.Native.Nat.{ℕ, suc}
+use Prim.Native.Nat.{ℕ, zero, suc, _-_}
 use mathlib.Core.Path.{_≡_, refl, sym, ap, _∙_}
 use mathlib.Core.Bool.{Bool, true, false, not, cond, _&&_, _||_}
 use mathlib.Core.Option.{Option, none, some, Option·getD}
-use mathlib.Core.List.{List, [], _∷_}
+use mathlib.Core.List.{List, [], _∷_, _++_, map-append}
+use native.Mathlib.Omega.{arith}
+use borrow.Author.Tests.{lt-ltb}
 use lib.IntN.{ℤ, pos}
 use lib.ListN.{getD}
 use lib.Dec.{eqb, ltb}
 use Rattle.rules.specs.Text.{Part}
 use Rattle.rules.specs.Values.{Key, Length, eighth, element}
-use Rattle.rules.specs.Tokens.{keyIn, octaveIn, durationIn, letterIn, isBarline, Token, Item}
-use Rattle.rules.specs.Records.{_or_, isSome, given, isEmpty, Pitch, Heading, Note}
-use Rattle.rules.specs.Rules.{Accidentals, noAccidentals, fresh, pitchOf, entered, endsInNote, joins, kindOf, isGrace, lengthOf, heading, openedHeading, step, stateAfter, stored, State, Attributes}
-use Rattle.rules.specs.LookBack.{latest, never, keep, textOf, letterOf, groupOf, isCaret, lastBarline, isNoRest, backOctave, backAccidental, backMarked, backChord, inGraceGroup, backPattern, sinceBarline, backKey, backAlter, backJoins, backGraceSign, backKind, backTaken, backElement, backLength}
-use Rattle.theorems.proofs.Places.{barlineAt, since-bar}
-use Rattle.theorems.proofs.Cutting.{Cut, ordered}
+use Rattle.rules.specs.Tokens.{keyIn, octaveIn, durationIn, letterIn, isBarline, wholeBarsIn, Token, Item}
+use Rattle.rules.specs.Records.{_or_, isSome, given, isEmpty, Pitch, Heading, Note, isRestKind}
+use Rattle.rules.specs.Rules.{Accidentals, noAccidentals, fresh, pitchOf, entered, endsInNote, joins, kindOf, isGrace, lengthOf, heading, openedHeading, wholeBarRest, stores, step, furtherBars, innerBarline, inTurn, stateAfter, State, Attributes}
+use Rattle.rules.specs.LookBack.{latest, never, textOf, letterOf, groupOf, isCaret, hasInnerBar, isNoRest, backOctave, backAccidental, backMarked, backChord, inGraceGroup, backPattern, sinceBarline, backKey, backAlter, backJoins, backGraceSign, backKind, backTaken, backElement, backLength}
+use Rattle.theorems.proofs.Lists.{cond-ind}
+use Rattle.theorems.proofs.Cutting.{Says, Cut}
+use Rattle.theorems.proofs.WholeBars.{wholeAt, by-turns, untouched}
+use Rattle.theorems.proofs.Places.{headings, older, headings-behind}
 
 -- a default after two choices
 getD-or : {A : Type 0} (a b : Option A) (d : A) → Option·getD a (Option·getD b d) ≡ Option·getD (a or b) d
@@ -27,7 +31,7 @@ chord-step t false true o = refl
 chord-step t false false o = refl
 
 accidentals-step : (b : Bool) (l : Option ℕ) (w : Option ℤ) (t : Accidentals) (q n o : ℕ)
-    → (cond b noAccidentals (given l t (λ m. given w t (λ a. entered t m q a)))) n o ≡ cond b none (given l none (λ m. cond (eqb n m && eqb o q) w none) or t n o)
+    → (cond b noAccidentals (given l t (λ m. given w t (λ a. entered t m q a)))) n o ≡ cond (b || false) none (given l none (λ m. cond (eqb n m && eqb o q) w none) or t n o)
 accidentals-step true l w t q n o = refl
 accidentals-step false none w t q n o = refl
 accidentals-step false (some m) none t q n o = same-none (eqb n m && eqb o q) (t n o)
@@ -49,9 +53,22 @@ key-step false o r d = refl
 
 -- ---- the rules' clauses and the look-back's
 
-no-rest : (ns : List Note) → endsInNote ns ≡ isNoRest ns
-no-rest [] = refl
-no-rest (n ∷ ns) = refl
+-- of a list of notes by its headings alone: it is empty; its latest note is there and no rest
+is-empty : (ns : List Note) → isEmpty ns ≡ isEmpty (headings ns)
+is-empty [] = refl
+is-empty (n ∷ ns) = refl
+
+abbrev noteFirst : List Heading → Bool
+noteFirst [] = false
+noteFirst (h ∷ hs) = not (isRestKind (h .kind))
+
+ends-in-note : (ns : List Note) → endsInNote ns ≡ noteFirst (headings ns)
+ends-in-note [] = refl
+ends-in-note (n ∷ ns) = refl
+
+is-no-rest : (ns : List Note) → isNoRest ns ≡ noteFirst (headings ns)
+is-no-rest [] = refl
+is-no-rest (n ∷ ns) = refl
 
 grace-is : (mark : Option Bool) (group : Bool) → isGrace mark group ≡ given mark group (λ slashed. true)
 grace-is none group = refl
@@ -68,6 +85,24 @@ length-is none value = refl
 length-is (some true) value = refl
 length-is (some false) value = refl
 
+-- ---- inner barlines
+
+abbrev isMore : ℕ → Bool
+isMore zero = false
+isMore (suc n) = true
+
+-- one stands in a token that has further bars
+inner-is : (t : Token) (text : List ℕ) → Says t text → isMore (furtherBars t) ≡ hasInnerBar text
+inner-is t text h = go (wholeBarsIn t) ∙ ap (ltb 1) (h .rests)
+  where
+    more : (n : ℕ) → isMore n ≡ ltb 1 (suc n)
+    more zero = refl
+    more (suc n) = sym (lt-ltb 1 (suc (suc n)) (omega arith))
+
+    go : (o : Option ℕ) → isMore (Option·getD o 1 - 1) ≡ ltb 1 (given o 0 (λ n. suc (n - 1)))
+    go none = refl
+    go (some n) = more (n - 1)
+
 module _ (k : Attributes) (line : Part) where
   -- a letter's pitch and its record's heading, as the look-back gives them
   abbrev pub backPitch : List Item → ℕ → ℕ → Pitch
@@ -76,69 +111,92 @@ module _ (k : Attributes) (line : Part) where
   abbrev pub backHeading : List Item → ℕ → Heading
   backHeading before place = heading place (backKind k line before) (backLength k line before)
 
-  -- a field that a token may set, and that nothing else touches
+  -- a field that a token may set, but no barline and no `=`, and that nothing else touches
   kept : {A : Type 0} (f : State → A) (of : Token → Option A) → ((x : Item) (s : State) → f (step x s) ≡ Option·getD (of (x .token)) (f s))
+      → ((x : Item) (n : ℕ) (s : State) → f (step (wholeAt x n) s) ≡ f s) → ((x : Item) (s : State) → f (step (innerBarline x) s) ≡ f s)
       → (e : List Item) → f (stateAfter k e) ≡ Option·getD (latest never (λ x b. of (x .token)) e) (f (fresh k))
-  unfolding step stateAfter
-  kept f of h [] = refl
-  kept f of h (x ∷ e) = h x (stateAfter k e) ∙ ap (Option·getD (of (x .token))) (kept f of h e) ∙ getD-or (of (x .token)) (latest never (λ x b. of (x .token)) e) (f (fresh k))
+  unfolding stateAfter
+  kept f of h own bar [] = refl
+  kept f of h own bar (x ∷ e) = untouched f own bar x (stateAfter k e) ∙ h x (stateAfter k e) ∙ ap (Option·getD (of (x .token))) (kept f of h own bar e) ∙ getD-or (of (x .token)) (latest never (λ x b. of (x .token)) e) (f (fresh k))
 
   octave-agrees : (e : List Item) → stateAfter k e .octave ≡ backOctave e
   unfolding step stateAfter
-  octave-agrees = kept (λ s. s .octave) octaveIn (λ x s. refl)
+  octave-agrees = kept (λ s. s .octave) octaveIn (λ x s. refl) (λ x n s. refl) (λ x s. refl)
 
   group-agrees : (e : List Item) → Cut line e → stateAfter k e .graceGroup ≡ inGraceGroup line e
   unfolding step stateAfter
   group-agrees [] h = refl
-  group-agrees (x ∷ e) h = (λ i. Option·getD (h .2 .group i) (group-agrees e (h .1) i)) ∙ getD-or (groupOf (textOf line x)) (latest never (λ x b. groupOf (textOf line x)) e) false
+  group-agrees (x ∷ e) h = untouched (λ s. s .graceGroup) (λ x n s. refl) (λ x s. refl) x (stateAfter k e)
+      ∙ (λ i. Option·getD (h .2 .group i) (group-agrees e (h .1) i)) ∙ getD-or (groupOf (textOf line x)) (latest never (λ x b. groupOf (textOf line x)) e) false
 
   pattern-agrees : (e : List Item) → stateAfter k e .pattern ≡ backPattern e
   unfolding step stateAfter
-  pattern-agrees = kept (λ s. s .pattern) durationIn (λ x s. refl)
+  pattern-agrees = kept (λ s. s .pattern) durationIn (λ x s. refl) (λ x n s. refl) (λ x s. refl)
 
   sign-agrees : (e : List Item) → Cut line e → stateAfter k e .pendingAccidental ≡ backAccidental line e
   unfolding step stateAfter
   sign-agrees [] h = refl
-  sign-agrees (x ∷ e) h = λ i. cond (isSome (h .2 .letter i)) none (h .2 .sign i or sign-agrees e (h .1) i)
+  sign-agrees (x ∷ e) h = untouched (λ s. s .pendingAccidental) (λ x n s. refl) (λ x s. refl) x (stateAfter k e) ∙ λ i. cond (isSome (h .2 .letter i)) none (h .2 .sign i or sign-agrees e (h .1) i)
 
   chord-agrees : (e : List Item) → Cut line e → stateAfter k e .chordNext ≡ backChord line e
   unfolding step stateAfter
   chord-agrees [] h = refl
-  chord-agrees (x ∷ e) h = (λ i. cond (isSome (h .2 .letter i)) false (h .2 .caret i || chord-agrees e (h .1) i)) ∙ chord-step x (isSome (letterOf (textOf line x))) (isCaret (textOf line x)) _
+  chord-agrees (x ∷ e) h = untouched (λ s. s .chordNext) (λ x n s. refl) (λ x s. refl) x (stateAfter k e)
+      ∙ (λ i. cond (isSome (h .2 .letter i)) false (h .2 .caret i || chord-agrees e (h .1) i)) ∙ chord-step x (isSome (letterOf (textOf line x))) (isCaret (textOf line x)) _
 
   accidentals-agrees : (e : List Item) → Cut line e → (n o : ℕ) → stateAfter k e .accidentals n o ≡ backMarked line n o e
   unfolding step stateAfter
   accidentals-agrees [] h n o = refl
   accidentals-agrees (x ∷ e) h n o =
-      accidentals-step (isBarline (x .token)) (letterIn (x .token)) (stateAfter k e .pendingAccidental) (stateAfter k e .accidentals) (stateAfter k e .octave) n o
-      ∙ λ i. cond (h .2 .bar i) none (given (h .2 .letter i) none (λ m. cond (eqb n m && eqb o (octave-agrees e i)) (sign-agrees e (h .1) i) none) or accidentals-agrees e (h .1) n o i)
+      by-turns (λ x further. inTurn x further s .accidentals n o ≡ cond (isBarline (x .token) || isMore further) none (marked x)) (λ x. accidentals-step (isBarline (x .token)) (letterIn (x .token)) (s .pendingAccidental) (s .accidentals) (s .octave) n o) (λ x c further. refl) x
+      ∙ λ i. cond (h .2 .bar i || inner-is (x .token) (textOf line x) (h .2) i) none (given (h .2 .letter i) none (λ m. cond (eqb n m && eqb o (octave-agrees e i)) (sign-agrees e (h .1) i) none) or accidentals-agrees e (h .1) n o i)
+    where
+      s : State
+      s = stateAfter k e
 
-  barline-agrees : (e : List Item) → Cut line e → lastBarline line e ≡ barlineAt e
-  barline-agrees [] h = refl
-  barline-agrees (x ∷ e) h = λ i. cond (sym (h .2 .bar) i) (x .place) (barline-agrees e (h .1) i)
+      marked : Item → Option ℤ
+      marked x = given (letterIn (x .token)) none (λ m. cond (eqb n m && eqb o (s .octave)) (s .pendingAccidental) none) or s .accidentals n o
 
-  since-agrees : (e : List Item) → Cut line e → stateAfter k e .openBar ≡ sinceBarline k line e
-  since-agrees e h = sym (ap (λ p. keep (λ n. ltb p (n .heading .place)) (stored (stateAfter k e))) (barline-agrees e h) ∙ since-bar k e (ordered line e h))
+  -- the open bar holds what the look-back counts as stored since the last barline, but for pitches and notations
+  since-agrees : (e : List Item) → Cut line e → headings (stateAfter k e .openBar) ≡ headings (sinceBarline k line e)
+  unfolding step stateAfter
+  since-agrees [] h = refl
+  since-agrees (x ∷ e) h =
+      by-turns (λ x further. headings (inTurn x further s .openBar) ≡ headings (cond (isBarline (x .token)) [] (cond (isMore further) (wholeBarRest (x .place) ∷ []) (stores (x .place) (x .token) s ++ sinceBarline k line e)))) (λ x. one x (since-agrees e (h .1)) (isBarline (x .token))) (λ x c further. refl) x
+      ∙ λ i. headings (cond (h .2 .bar i) [] (cond (inner-is (x .token) (textOf line x) (h .2) i) (wholeBarRest (x .place) ∷ []) (stores (x .place) (x .token) s ++ sinceBarline k line e)))
+    where
+      s : State
+      s = stateAfter k e
+
+      one : (x : Item) → headings (s .openBar) ≡ headings (sinceBarline k line e) → (b : Bool) → headings (cond b [] (stores (x .place) (x .token) s ++ older (x .place) (x .token) s)) ≡ headings (cond b [] (stores (x .place) (x .token) s ++ sinceBarline k line e))
+      one x i true = refl
+      one x i false =
+          let new : List Note = stores (x .place) (x .token) s in
+          headings-behind new (x .place) (x .token) s ∙ ap (λ l. headings new ++ l) i ∙ sym (map-append (λ (r : Note). r .heading) new (sinceBarline k line e))
+
+  empty-agrees : (e : List Item) → Cut line e → isEmpty (stateAfter k e .openBar) ≡ isEmpty (sinceBarline k line e)
+  empty-agrees e h = is-empty (stateAfter k e .openBar) ∙ ap isEmpty (since-agrees e h) ∙ sym (is-empty (sinceBarline k line e))
 
   pub joins-agrees : (e : List Item) → Cut line e → joins (stateAfter k e) ≡ backJoins k line e
-  joins-agrees e h = λ i. chord-agrees e h i && (no-rest (stateAfter k e .openBar) ∙ ap isNoRest (since-agrees e h)) i
+  joins-agrees e h = λ i. chord-agrees e h i && (ends-in-note (stateAfter k e .openBar) ∙ ap noteFirst (since-agrees e h) ∙ sym (is-no-rest (sinceBarline k line e))) i
 
   key-agrees : (e : List Item) → Cut line e → stateAfter k e .keyAlters ≡ backKey k line e
   unfolding step stateAfter
   key-agrees [] h = refl
   key-agrees (x ∷ e) h =
-      (λ i. cond (isEmpty (since-agrees e (h .1) i)) (given (keyIn (x .token)) (key-agrees e (h .1) i) (λ key. key .alters)) (key-agrees e (h .1) i))
+      untouched (λ s. s .keyAlters) (λ x n s. cond-ind (λ a. a ≡ s .keyAlters) (isEmpty (s .openBar)) refl refl) (λ x s. cond-ind (λ a. a ≡ s .keyAlters) (isEmpty (s .openBar)) refl refl) x (stateAfter k e)
+      ∙ (λ i. cond (empty-agrees e (h .1) i) (given (keyIn (x .token)) (key-agrees e (h .1) i) (λ key. key .alters)) (key-agrees e (h .1) i))
       ∙ key-step (isEmpty (sinceBarline k line e)) (keyIn (x .token)) (latest never (λ x b. cond (isEmpty (sinceBarline k line b)) (given (keyIn (x .token)) none (λ key. some (key .alters))) none) e) (k .keyAlters)
 
   grace-agrees : (e : List Item) → Cut line e → stateAfter k e .pendingGrace ≡ backGraceSign k line e
   unfolding step stateAfter
   grace-agrees [] h = refl
-  grace-agrees (x ∷ e) h = λ i. cond (isSome (h .2 .letter i) && not (joins-agrees e (h .1) i)) none (h .2 .grace i or grace-agrees e (h .1) i)
+  grace-agrees (x ∷ e) h = untouched (λ s. s .pendingGrace) (λ x n s. refl) (λ x s. refl) x (stateAfter k e) ∙ λ i. cond (isSome (h .2 .letter i) && not (joins-agrees e (h .1) i)) none (h .2 .grace i or grace-agrees e (h .1) i)
 
   index-agrees : (e : List Item) → Cut line e → stateAfter k e .valuesTaken ≡ backTaken k line e
   unfolding step stateAfter
   index-agrees [] h = refl
-  index-agrees (x ∷ e) h = λ i. cond (isSome (durationIn (x .token))) 0
+  index-agrees (x ∷ e) h = untouched (λ s. s .valuesTaken) (λ x n s. refl) (λ x s. refl) x (stateAfter k e) ∙ λ i. cond (isSome (durationIn (x .token))) 0
       (cond (h .2 .dash i || (isSome (h .2 .letter i) && not (joins-agrees e (h .1) i) && not ((ap (λ m. isGrace m (stateAfter k e .graceGroup)) (grace-agrees e (h .1)) ∙ grace-is (backGraceSign k line e) (stateAfter k e .graceGroup) ∙ ap (λ g. given (backGraceSign k line e) g (λ slashed. true)) (group-agrees e (h .1))) i)))
       (suc (index-agrees e (h .1) i)) (index-agrees e (h .1) i))
 

@@ -4,6 +4,7 @@ pub mod Characters
 pub mod Cutting
 pub mod TokenPlaces
 pub mod DataFormed
+pub mod WholeBars
 pub mod Places
 pub mod FieldByField
 pub mod Kept

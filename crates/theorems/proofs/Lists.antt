@@ -68,13 +68,13 @@ module _ {A : Type 0} where
       go true e = ap (λ r. x ∷ r) e
       go false e = e
 
-  pub keep-all : (p : A → Bool) (l : List A) → All (λ x. T (p x)) l → keep p l ≡ l
-  keep-all p [] h = refl
-  keep-all p (x ∷ l) h = λ i. cond (is-true (p x) (h .0) i) (x ∷ keep-all p l (h .1) i) (keep-all p l (h .1) i)
-
   pub keep-none : (p : A → Bool) (l : List A) → All (λ x. T (not (p x))) l → keep p l ≡ []
   keep-none p [] h = refl
   keep-none p (x ∷ l) h = λ i. cond (is-false (p x) (h .0) i) (x ∷ keep-none p l (h .1) i) (keep-none p l (h .1) i)
+
+  pub keep-every : (p : A → Bool) (l : List A) → All (λ x. T (p x)) l → keep p l ≡ l
+  keep-every p [] h = refl
+  keep-every p (x ∷ l) h = λ i. cond (is-true (p x) (h .0) i) (x ∷ keep-every p l (h .1) i) (keep-every p l (h .1) i)
 
   pub keep-same : (p q : A → Bool) (l : List A) → All (λ x. p x ≡ q x) l → keep p l ≡ keep q l
   keep-same p q [] h = refl

@@ -4,26 +4,53 @@
 use crate::library::{BAR, Cells, DIAGNOSTIC, DIAGNOSTICS, Lent, NOTE, Reading, all_zero};
 use crate::original::{Found, Original, Outcome, PITCH, PITCHES, ROOM, found};
 use crate::walk::{Needs, Refusal, TEXT, Walk, field_in, trimmed};
+use crate::written::Written;
+
+/// Words of a note record, kinds of notes, and the place kind of the data.
+const KIND: usize = 1;
+const DURATION: usize = 2;
+const DOTS: usize = 3;
+const REST: i32 = 1;
+const WHOLE_BARS: i32 = 4;
+const DATA: i32 = 3;
 
 /// What was compared.
 #[derive(Clone, Copy, Default)]
 pub struct Tally {
     pub texts: u64,
+    /// Texts that weren't compared.
+    pub left_out: u64,
     pub calls: u64,
     /// By number of the refusal; 0: accepted.
     pub numbers: [u64; 14],
     /// By number of the diagnostic.
-    pub diagnostics: [u64; 20],
+    pub diagnostics: [u64; 21],
     pub notes: u64,
+    /// The notes that are rests of whole bars.
+    pub whole_bars: u64,
     pub bars: u64,
     pub faults: u64,
 }
 
-#[derive(Default)]
+/// What becomes of texts with an `=` token, which the original reads otherwise.
+#[derive(Clone, Copy, PartialEq, Eq)]
+pub enum WholeBars {
+    /// They are left out.
+    LeftOut,
+    /// The original reads them written out. Left out are those where a tie waits at an `=` token, or the pattern there
+    /// has more than one length: the rest would cancel the tie, and step the pattern.
+    WrittenOut,
+    /// The original reads them as they are: without a meter, it fills an empty bar with one rest for an `=`, and leaves
+    /// tie and pattern alone. Left out are those with a meter, or with an `=` token in a bar that isn't empty.
+    Filled,
+}
+
 pub struct Comparison {
     original: Original,
     walk: Walk,
     cells: Cells,
+    whole_bars: WholeBars,
+    written: Option<Written>,
     pub tally: Tally,
 }
 
@@ -31,13 +58,32 @@ pub struct Comparison {
 pub type Checked = Result<(), String>;
 
 impl Comparison {
+    pub fn new(whole_bars: WholeBars) -> Self {
+        Self {
+            original: Original::default(),
+            walk: Walk::default(),
+            cells: Cells::default(),
+            whole_bars,
+            written: None,
+            tally: Tally::default(),
+        }
+    }
+
     /// Reads the text with the original and works out what is due; where both can be held together they must agree.
-    pub fn prepare(&mut self, text: &[u8]) -> Checked {
+    /// Tells whether the text is to be compared.
+    pub fn prepare(&mut self, text: &[u8]) -> Result<bool, String> {
+        self.written = Written::of(text);
+        if !self.followed(text) {
+            self.tally.left_out += 1;
+            return Ok(false);
+        }
         self.tally.texts += 1;
-        self.walk.follow(text);
-        match str::from_utf8(text) {
-            Ok(text) => self.original.read(text),
-            Err(_) => self.original = Original::default(),
+        match (&self.written, str::from_utf8(text)) {
+            (Some(written), _) if self.whole_bars == WholeBars::WrittenOut => {
+                self.original.read(written.data().text)
+            }
+            (_, Ok(text)) => self.original.read(text),
+            (_, Err(_)) => self.original = Original::default(),
         }
         if !self.agreed() {
             return Err("the original and the harness's own walk differ".into());
@@ -45,7 +91,30 @@ impl Comparison {
         if self.walk.stop.is_none() && self.original.outcome == Outcome::Accepted {
             self.enter_places();
         }
-        Ok(())
+        Ok(true)
+    }
+
+    /// Follows the text, or the line written out; whether it isn't left out.
+    fn followed(&mut self, text: &[u8]) -> bool {
+        let Some(written) = &self.written else {
+            self.walk.follow(text);
+            return true;
+        };
+        if self.whole_bars == WholeBars::LeftOut {
+            return false;
+        }
+        self.walk.follow_in(written.data());
+        let (against, metered) = match self.whole_bars {
+            WholeBars::Filled => (&self.walk.behind, written.metered),
+            _ => (&self.walk.felt, false),
+        };
+        !metered && !against.iter().any(|place| written.is_whole_bars(*place))
+    }
+
+    /// The place in the text of a place in what was followed.
+    fn place(&self, place: u32) -> u32 {
+        let written = self.written.as_ref();
+        written.map_or(place, |written| written.place(place))
     }
 
     /// The records that the prepared text needs.
@@ -63,7 +132,7 @@ impl Comparison {
         let due = self.walk.refusal(lent);
         let refused = |refusal: Refusal| Reading {
             number: refusal.number,
-            place: refusal.place,
+            place: self.place(refusal.place),
             ..Reading::default()
         };
         let due = due.map_or_else(|| self.accepted(), refused);
@@ -76,6 +145,7 @@ impl Comparison {
         self.tally.numbers[reading.number as usize] += 1;
         if reading.number == 0 {
             self.tally.notes += u64::from(reading.notes);
+            self.tally.whole_bars += whole_bars_in(self.cells.notes());
             self.tally.bars += u64::from(reading.bars);
             self.compare_cells(text)
         } else {
@@ -107,7 +177,11 @@ impl Comparison {
             );
         }
         let due = self.walk.refusal(lent);
-        format!("{library}\n  {original}\n  due refusal: {due:?}")
+        let written = self.written.as_ref().map_or(String::new(), |written| {
+            let text = written.data().text.as_bytes();
+            format!("\n  written out: \"{}\"", shortened(text))
+        });
+        format!("{library}\n  {original}\n  due refusal: {due:?}{written}")
     }
 
     fn accepted(&self) -> Reading {
@@ -125,7 +199,7 @@ impl Comparison {
         let outcome = self.original.outcome;
         let too_many = outcome == Outcome::TooManyNotes;
         match self.walk.stop.map(|stop| stop.number) {
-            Some(1 | 3 | 6) => true,
+            Some(1 | 3) => true,
             Some(4 | 5) => outcome == Outcome::Empty,
             Some(7) => too_many,
             Some(9) => too_many || self.original.passes_pitches(),
@@ -148,15 +222,24 @@ impl Comparison {
                 .all(|(record, size)| record.pitches == size.pitches && record.marks == size.marks)
     }
 
-    /// Enters the added words into the original's records.
+    /// Enters the added words into the original's records, and what a rest of whole bars has instead of the rest that
+    /// the original has for it.
     fn enter_places(&mut self) {
-        let words = self.original.notes.chunks_exact_mut(NOTE);
+        let mut notes = std::mem::take(&mut self.original.notes);
+        let words = notes.chunks_exact_mut(NOTE);
         for (words, record) in words.zip(&self.walk.records) {
-            words[0] = record.place as i32;
+            words[0] = self.place(record.place) as i32;
             for (at, letter) in record.letters[..record.pitches].iter().enumerate() {
-                words[PITCHES + PITCH * at] = *letter as i32;
+                words[PITCHES + PITCH * at] = self.place(*letter) as i32;
+            }
+            let written = self.written.as_ref();
+            if written.is_some_and(|written| written.is_whole_bars(record.origin)) {
+                words[KIND] += WHOLE_BARS - REST;
+                words[DURATION] = 0;
+                words[DOTS] = 0;
             }
         }
+        self.original.notes = notes;
     }
 
     /// Whether the original's answer alone allows the number. It reads on where the library stops, and its notes, bars,
@@ -178,7 +261,6 @@ impl Comparison {
             2 => lent.diagnostics < DIAGNOSTICS,
             3 => str::from_utf8(text).is_err(),
             4 | 5 | 13 => original.outcome == Outcome::Empty,
-            6 => text[self.walk.start..].contains(&b'='),
             7 => original.outcome == Outcome::TooManyNotes,
             8 => read_to(notes > note_room),
             9 => read_to(original.passes_pitches()),
@@ -218,10 +300,15 @@ impl Comparison {
         if !all_zero(behind) {
             return Err("a cell behind the diagnostics isn't 0".into());
         }
+        let written = self.written.as_ref();
+        let starts = written.map_or(&self.walk.starts, |written| &written.starts);
         let words = stored.chunks_exact(DIAGNOSTIC);
         for (at, (words, diagnostic)) in words.zip(&self.original.diagnostics).enumerate() {
-            let due = found(diagnostic);
-            if !same_diagnostic(text, &self.walk.starts, words, &due) {
+            let mut due = found(diagnostic);
+            if due.place_kind == DATA && self.whole_bars == WholeBars::WrittenOut {
+                due.place = self.place(due.place as u32) as i32;
+            }
+            if !same_diagnostic(text, starts, words, &due) {
                 return Err(format!("diagnostic {at} differs: {words:?}"));
             }
             self.tally.diagnostics[due.number as usize] += 1;
@@ -263,7 +350,7 @@ fn same_value(text: &str, starts: &[usize], start: i32, end: i32, due: &Found) -
         return false;
     };
     let stands = match (due.place_kind, due.value) {
-        (3, _) => starts
+        (DATA, _) => starts
             .get(due.place as usize - 1)
             .is_some_and(|token| start == token_value(text, *token)),
         // Where the blanks of an empty value are trimmed to isn't told.
@@ -276,7 +363,7 @@ fn same_value(text: &str, starts: &[usize], start: i32, end: i32, due: &Found) -
 /// Where the value of the token at this offset starts.
 fn token_value(text: &str, token: usize) -> usize {
     match text.as_bytes()[token] {
-        b'%' | b'$' | b'@' | b';' => token + 1,
+        b'%' | b'$' | b'@' | b';' | b'=' => token + 1,
         _ => token,
     }
 }
@@ -294,6 +381,20 @@ fn line_value(text: &str, due: &Found) -> Option<usize> {
         return Some(line.0);
     }
     field_in(text, line).map(|field| field.value.0)
+}
+
+fn whole_bars_in(notes: &[i32]) -> u64 {
+    let records = notes.chunks_exact(NOTE);
+    records.filter(|words| words[KIND] == WHOLE_BARS).count() as u64
+}
+
+/// An escaped text, its middle left out where it is long.
+pub fn shortened(text: &[u8]) -> String {
+    if text.len() <= 400 {
+        return text.escape_ascii().to_string();
+    }
+    let (head, tail) = (&text[..200], &text[text.len() - 200..]);
+    format!("{} .. {}", head.escape_ascii(), tail.escape_ascii())
 }
 
 /// As many records are printed of each buffer.

@@ -8,14 +8,17 @@ mod run;
 mod speed;
 mod texts;
 mod walk;
+mod written;
 
+use compare::WholeBars;
+use library::Cells;
 use random::Random;
 use run::Run;
 use std::process::ExitCode;
 use std::time::{Duration, Instant};
 use texts::{characters, limits, lines, short};
 
-/// How long the random section runs.
+/// How long the random lines of a section run.
 #[derive(Clone, Copy)]
 enum Until {
     Count(u64),
@@ -29,7 +32,7 @@ struct Options {
 }
 
 /// The sections that run where none is named, and those that run only then.
-const SECTIONS: [&str; 5] = ["ascii", "alphabets", "utf8", "limits", "random"];
+const SECTIONS: [&str; 6] = ["ascii", "alphabets", "utf8", "limits", "random", "rests"];
 const NAMED: [&str; 3] = ["scalars", "speed", "beside"];
 
 fn options() -> Result<Options, String> {
@@ -77,6 +80,7 @@ fn main() -> ExitCode {
             "scalars" => faults += characters(true),
             "limits" => faults += at_limits(),
             "random" => faults += random_lines(options.until, options.seed),
+            "rests" => faults += rests(options.until, options.seed),
             "beside" => speed::beside(),
             _ => speed::table(),
         }
@@ -89,7 +93,7 @@ fn main() -> ExitCode {
 }
 
 fn ascii() -> u64 {
-    section("all ASCII texts of up to 3 bytes", 1, |run| {
+    section("all ASCII texts of up to 3 bytes", Run::new(1), |run| {
         short::all(&short::ascii(), 3, &mut |text| {
             if !run.full() {
                 run.text(text)
@@ -103,7 +107,7 @@ fn alphabets() -> u64 {
     for (name, alphabet) in short::ALPHABETS {
         let letters = alphabet.escape_ascii();
         let title = format!("all texts of up to 6 of `{letters}` ({name})");
-        faults += section(&title, 1, |run| {
+        faults += section(&title, Run::new(1), |run| {
             short::all(alphabet, 6, &mut |text| {
                 if !run.full() {
                     run.text(text)
@@ -120,7 +124,7 @@ fn characters(all: bool) -> u64 {
     } else {
         "scalar values below U+3100, edges and every 61st"
     };
-    section(&format!("{which}, each at 20 places"), 1, |run| {
+    section(&format!("{which}, each at 20 places"), Run::new(1), |run| {
         for character in characters::scalars(all) {
             characters::around(character, &mut |text| {
                 if !run.full() {
@@ -134,7 +138,7 @@ fn characters(all: bool) -> u64 {
 fn sequences() -> u64 {
     section(
         "up to 4 bytes at UTF-8's edges, alone and behind C",
-        1,
+        Run::new(1),
         |run| {
             characters::sequences(&mut |text| {
                 if !run.full() {
@@ -149,7 +153,7 @@ fn parts() -> u64 {
     let mut faults = 0;
     for (name, parts) in characters::PARTS {
         let title = format!("all texts of up to 6 of {parts:?} ({name})");
-        faults += section(&title, 1, |run| {
+        faults += section(&title, Run::new(1), |run| {
             short::all_of(&parts.map(str::as_bytes), 6, &mut |text| {
                 if !run.full() {
                     run.text(text)
@@ -163,7 +167,7 @@ fn parts() -> u64 {
 fn runs() -> u64 {
     section(
         "runs of up to 130 before and behind characters and malformed bytes",
-        1,
+        Run::new(1),
         |run| {
             characters::runs(130, &mut |text| {
                 if !run.full() {
@@ -175,8 +179,9 @@ fn runs() -> u64 {
 }
 
 fn at_limits() -> u64 {
-    let each = |title, texts: Vec<Vec<u8>>, sizes: fn(walk::Needs) -> Vec<library::Lent>| {
-        section(title, 1, |run| {
+    type Sizes = fn(walk::Needs) -> Vec<library::Lent>;
+    let each = |title, run, texts: Vec<Vec<u8>>, sizes: Sizes| {
+        section(title, run, |run| {
             for text in texts {
                 if !run.full() {
                     run.text_with(&text, sizes);
@@ -186,34 +191,111 @@ fn at_limits() -> u64 {
     };
     each(
         "all lent sizes around the needs",
+        Run::new(1),
         limits::sized_texts(),
         limits::sizes,
     ) + each(
         "65,533 to 65,537 bytes",
+        Run::new(1),
         limits::long_texts(),
         limits::few_sizes,
     ) + each(
         "65,534 to 65,536 bytes, of two to four a character",
+        Run::new(1),
         limits::long_wide_texts(),
         limits::few_sizes,
     ) + each(
         "31 to 2,000 diagnostics",
+        Run::new(1),
         limits::many_diagnostics(),
         limits::few_sizes,
     ) + each(
         "patterns of 254 to 513 elements",
+        Run::new(1),
         limits::long_patterns(),
         limits::few_sizes,
     ) + each(
         "about 100,000 notes",
+        Run::new(1),
         limits::many_notes(),
         limits::few_sizes,
-    )
+    ) + each(
+        "rests of whole bars, written out: all lent sizes around the needs",
+        Run::with(WholeBars::WrittenOut, 1),
+        limits::sized_rests(),
+        limits::sizes,
+    ) + each(
+        "rests of whole bars, written out: 65,533 to 65,537 bytes, about 100,000 notes",
+        Run::with(WholeBars::WrittenOut, 1),
+        limits::many_rests(),
+        limits::few_sizes,
+    ) + stated()
+}
+
+/// Texts with rests of whole bars whose answers are stated by hand.
+fn stated() -> u64 {
+    let mut cells = Cells::default();
+    let texts = limits::stated();
+    let mut faults = 0;
+    for (text, lent, due) in &texts {
+        let read = cells.read(text, *lent);
+        if read != *due {
+            faults += 1;
+            println!("FAULT \"{}\"", compare::shortened(text));
+            println!("  lent {lent:?}\n  library: {read:?}\n  due:     {due:?}");
+        }
+    }
+    println!("rests of whole bars, stated by hand");
+    println!("  {} texts, {faults} faults", texts.len());
+    faults
 }
 
 fn random_lines(until: Until, seed: u64) -> u64 {
     let title = format!("random lines, field forms and slips, seed {seed}");
-    section(&title, seed, |run| {
+    drawn(&title, Run::new(seed), until, seed, lines::random_text)
+}
+
+/// Texts with rests of whole bars, in both ways in which the original can be asked about them.
+fn rests(until: Until, seed: u64) -> u64 {
+    let ways = [
+        ("`=` written out", WholeBars::WrittenOut),
+        ("`=` in empty bars, no meter", WholeBars::Filled),
+    ];
+    let mut faults = 0;
+    for (way, whole_bars) in ways {
+        let mut all = |texts: &str, name, parts: &[&[u8]]| {
+            let title = format!("all texts of up to 6 of {texts} ({name}), {way}");
+            faults += section(&title, Run::with(whole_bars, 1), |run| {
+                short::all_of(parts, 6, &mut |text| {
+                    if !run.full() {
+                        run.text(text)
+                    }
+                });
+            });
+        };
+        for (name, alphabet) in short::REST_ALPHABETS {
+            let parts: Vec<&[u8]> = alphabet.chunks(1).collect();
+            all(&format!("`{}`", alphabet.escape_ascii()), name, &parts);
+        }
+        for (name, parts) in short::REST_PARTS {
+            all(&format!("{parts:?}"), name, &parts.map(str::as_bytes));
+        }
+        let title = format!("random lines with rests of whole bars, {way}, seed {seed}");
+        let run = Run::with(whole_bars, seed);
+        faults += drawn(&title, run, until, seed, lines::random_rests);
+    }
+    faults
+}
+
+/// Runs texts that `draw` puts in place of the one before.
+fn drawn(
+    title: &str,
+    run: Run,
+    until: Until,
+    seed: u64,
+    draw: fn(&mut Random, &mut Vec<u8>),
+) -> u64 {
+    section(title, run, |run| {
         let mut random = Random::new(seed);
         let mut text = Vec::new();
         let begun = Instant::now();
@@ -223,7 +305,7 @@ fn random_lines(until: Until, seed: u64) -> u64 {
         };
         let mut done = 0;
         while due(done) && !run.full() {
-            lines::random_text(&mut random, &mut text);
+            draw(&mut random, &mut text);
             run.text(&text);
             done += 1;
         }
@@ -231,9 +313,8 @@ fn random_lines(until: Until, seed: u64) -> u64 {
 }
 
 /// Runs a section, prints what was compared, and tells the faults.
-fn section(title: &str, seed: u64, body: impl FnOnce(&mut Run)) -> u64 {
+fn section(title: &str, mut run: Run, body: impl FnOnce(&mut Run)) -> u64 {
     let begun = Instant::now();
-    let mut run = Run::new(seed);
     body(&mut run);
     let tally = run.tally();
     let numbered = |counts: &[u64], first: usize, mark: &str| {
@@ -242,16 +323,21 @@ fn section(title: &str, seed: u64, body: impl FnOnce(&mut Run)) -> u64 {
         seen.map(|(number, count)| format!(" {mark}{number}: {count}"))
             .collect::<String>()
     };
+    let whole_bars = match tally.whole_bars {
+        0 => String::new(),
+        count => format!(" ({count} of them rests of whole bars)"),
+    };
     println!("{title}");
     println!(
-        "  {} texts, {} calls, {} faults, {:.1} s",
+        "  {} texts, {} left out, {} calls, {} faults, {:.1} s",
         tally.texts,
+        tally.left_out,
         tally.calls,
         tally.faults,
         begun.elapsed().as_secs_f64()
     );
     println!(
-        "  accepted: {}, with {} notes, {} bars; diagnostics{}",
+        "  accepted: {}, with {} notes{whole_bars}, {} bars; diagnostics{}",
         tally.numbers[0],
         tally.notes,
         tally.bars,

@@ -289,8 +289,7 @@ fn number(code: &str, reason: &str) -> i32 {
         ("repeat", "a repeated figure crossing a barline is not imported") => 17,
         ("repeat", "'f' needs a preceding !…! figure") => 18,
         ("repeat", "'i' repeats a whole previous bar and must start a bar") => 19,
-        // A whole-bar rest; document 01 refuses its token.
-        ("measure-rest", _) => 0,
+        ("measure-rest", _) => 20,
         other => panic!("no number for {other:?}"),
     }
 }

@@ -1,6 +1,6 @@
 //! Runs texts through the comparison, counts them, and cuts down and prints those that differ.
 
-use crate::compare::{Checked, Comparison, Tally, ample};
+use crate::compare::{Checked, Comparison, Tally, WholeBars, shortened};
 use crate::library::{BAR, Lent, NOTE};
 use crate::random::Random;
 use crate::walk::Needs;
@@ -17,9 +17,14 @@ pub struct Run {
 }
 
 impl Run {
+    /// Leaves texts with an `=` token out.
     pub fn new(seed: u64) -> Self {
+        Self::with(WholeBars::LeftOut, seed)
+    }
+
+    pub fn with(whole_bars: WholeBars, seed: u64) -> Self {
         Self {
-            comparison: Comparison::default(),
+            comparison: Comparison::new(whole_bars),
             random: Random::new(seed),
         }
     }
@@ -28,7 +33,7 @@ impl Run {
     pub fn text(&mut self, text: &[u8]) {
         let prepared = self.comparison.prepare(text);
         let lent = lent_by_chance(&mut self.random, self.comparison.needs());
-        let checked = prepared.and_then(|()| self.comparison.call(text, lent));
+        let checked = self.called(text, lent, prepared);
         self.settle(text, lent, checked);
     }
 
@@ -36,15 +41,20 @@ impl Run {
     pub fn text_with(&mut self, text: &[u8], lents: impl Fn(Needs) -> Vec<Lent>) {
         let prepared = self.comparison.prepare(text);
         let needs = self.comparison.needs();
-        if prepared.is_err() {
-            return self.settle(text, ample(needs), prepared);
-        }
         for lent in lents(needs) {
-            let checked = self.comparison.call(text, lent);
+            let checked = self.called(text, lent, prepared.clone());
             if checked.is_err() {
                 return self.settle(text, lent, checked);
             }
         }
+    }
+
+    /// Calls the library unless the text is left out.
+    fn called(&mut self, text: &[u8], lent: Lent, prepared: Result<bool, String>) -> Checked {
+        if prepared? {
+            self.comparison.call(text, lent)?;
+        }
+        Ok(())
     }
 
     pub fn tally(&self) -> Tally {
@@ -76,8 +86,8 @@ impl Run {
     }
 
     fn differs(&mut self, text: &[u8], lent: Lent) -> Checked {
-        self.comparison.prepare(text)?;
-        self.comparison.call(text, lent)
+        let prepared = self.comparison.prepare(text);
+        self.called(text, lent, prepared)
     }
 
     /// Leaves parts out while the text still differs and there is time.
@@ -103,15 +113,6 @@ impl Run {
         }
         small
     }
-}
-
-/// An escaped text, its middle left out where it is long.
-fn shortened(text: &[u8]) -> String {
-    if text.len() <= 400 {
-        return text.escape_ascii().to_string();
-    }
-    let (head, tail) = (&text[..200], &text[text.len() - 200..]);
-    format!("{} .. {}", head.escape_ascii(), tail.escape_ascii())
 }
 
 /// Exactly what is needed, more, or too little; broken records too, and now and then too few diagnostic cells.

@@ -19,6 +19,8 @@ pub struct Refusal {
 #[derive(Clone, Copy, Default)]
 pub struct Record {
     pub place: u32,
+    /// Its place where it is no copy, else that of the record that was copied first.
+    pub origin: u32,
     pub letters: [u32; ROOM],
     pub pitches: usize,
     pub marks: usize,
@@ -43,12 +45,14 @@ struct Group {
 pub struct Walk {
     /// The stored records; more than 100,000 never stand here.
     pub records: Vec<Record>,
-    /// Where the data starts in the text.
-    pub start: usize,
     /// Where each character of the data starts in the text.
     pub starts: Vec<usize>,
     /// The stop that no lent size helps.
     pub stop: Option<Refusal>,
+    /// The places of rests that cancel a tie, or step a pattern of more than one length.
+    pub felt: Vec<u32>,
+    /// The places of rests in a bar that has a note or rest already, graces aside.
+    pub behind: Vec<u32>,
     bars: Vec<u32>,
     figures: Vec<(u32, usize)>,
     figure: Vec<Record>,
@@ -59,32 +63,30 @@ pub struct Walk {
     chord: bool,
     grace: bool,
     grace_group: bool,
+    tie: bool,
+    /// Whether the pattern has more than one length.
+    patterned: bool,
+    /// Whether the open bar has a note or rest, graces aside.
+    timed: bool,
 }
 
 impl Walk {
     /// Follows a text as far as it can be read with ample cells.
     pub fn follow(&mut self, text: &[u8]) {
+        match data_in(text) {
+            Ok(data) => self.follow_in(data),
+            Err(number) => {
+                self.forget();
+                self.stop = Some(Refusal { place: 0, number });
+            }
+        }
+    }
+
+    /// Follows the data of a text, however long.
+    pub fn follow_in(&mut self, data: Data) {
         self.forget();
-        let stopped = |number| Some(Refusal { place: 0, number });
-        if text.len() > TEXT {
-            self.stop = stopped(1);
-            return;
-        }
-        let Ok(text) = str::from_utf8(text) else {
-            self.stop = stopped(3);
-            return;
-        };
-        if text.chars().all(is_blank) {
-            self.stop = stopped(4);
-        } else if let Some((start, end)) = data_of(text) {
-            let data = &text[start..end];
-            self.start = start;
-            self.starts
-                .extend(data.char_indices().map(|(at, _)| start + at));
-            self.follow_data(data);
-        } else {
-            self.stop = stopped(5);
-        }
+        self.starts.extend(data.starts());
+        self.follow_data(data.read());
     }
 
     fn forget(&mut self) {
@@ -94,7 +96,11 @@ impl Walk {
         std::mem::swap(&mut fresh.figures, &mut self.figures);
         std::mem::swap(&mut fresh.figure, &mut self.figure);
         std::mem::swap(&mut fresh.starts, &mut self.starts);
+        std::mem::swap(&mut fresh.felt, &mut self.felt);
+        std::mem::swap(&mut fresh.behind, &mut self.behind);
         fresh.starts.clear();
+        fresh.felt.clear();
+        fresh.behind.clear();
         fresh.records.clear();
         fresh.bars.clear();
         fresh.figures.clear();
@@ -148,16 +154,13 @@ impl Walk {
     }
 
     fn follow_data(&mut self, data: &str) {
-        let mut rest = data;
         let mut place = 1;
-        while let Some(first) = rest.chars().next() {
-            let (token, behind) = rest.split_at(token_size(first, rest));
+        for token in tokens(data) {
             if let Err(number) = self.take(token.as_bytes(), place) {
                 self.stop = Some(Refusal { place, number });
                 return;
             }
             place += token.chars().count() as u32;
-            rest = behind;
         }
         self.close(place);
     }
@@ -170,11 +173,10 @@ impl Walk {
     fn take(&mut self, token: &[u8], place: u32) -> Result<(), u32> {
         match token {
             [b'A'..=b'G'] => return self.letter(place),
-            b"-" => {
-                return self.store(Record {
-                    place,
-                    ..Record::default()
-                });
+            b"-" => return self.rest(place),
+            [b'0'..=b'9', more @ ..] => self.patterned = more.iter().any(u8::is_ascii_digit),
+            b"+" if self.open() > 0 => {
+                self.tie |= self.records.last().is_some_and(|last| last.pitches > 0)
             }
             b"^" => self.chord = true,
             b"g" | b"q" => self.grace = true,
@@ -193,7 +195,6 @@ impl Walk {
             b"!" => self.mark_figure(place),
             b"f" => return self.append_figure(place),
             b"i" if self.open() == 0 && !self.bars.is_empty() => return self.repeat_bar(place),
-            [b'=', ..] => return Err(6),
             _ => {}
         }
         Ok(())
@@ -204,7 +205,22 @@ impl Walk {
             return Err(7);
         }
         self.records.push(record);
+        self.timed |= !record.grace;
         Ok(())
+    }
+
+    fn rest(&mut self, place: u32) -> Result<(), u32> {
+        if std::mem::take(&mut self.tie) || self.patterned {
+            self.felt.push(place);
+        }
+        if self.timed {
+            self.behind.push(place);
+        }
+        self.store(Record {
+            place,
+            origin: place,
+            ..Record::default()
+        })
     }
 
     fn letter(&mut self, place: u32) -> Result<(), u32> {
@@ -223,8 +239,10 @@ impl Walk {
             return Ok(());
         }
         let grace = std::mem::take(&mut self.grace) || self.grace_group;
+        self.tie = false;
         let mut record = Record {
             place,
+            origin: place,
             pitches: 1,
             grace,
             ..Record::default()
@@ -246,6 +264,7 @@ impl Walk {
             self.bars.push(place);
             self.last_bar = (self.first, self.records.len());
             self.first = self.records.len();
+            self.timed = false;
         }
     }
 
@@ -292,8 +311,10 @@ impl Walk {
         if self.records.len() + self.figure.len() > NOTES {
             return Err(7);
         }
-        let copies = self.figure.iter().map(|record| Record { place, ..*record });
-        self.records.extend(copies);
+        for record in &self.figure {
+            self.records.push(Record { place, ..*record });
+            self.timed |= !record.grace;
+        }
         Ok(())
     }
 
@@ -303,10 +324,9 @@ impl Walk {
             return Err(7);
         }
         for index in from..to {
-            self.records.push(Record {
-                place,
-                ..self.records[index]
-            });
+            let record = self.records[index];
+            self.records.push(Record { place, ..record });
+            self.timed |= !record.grace;
         }
         Ok(())
     }
@@ -355,6 +375,40 @@ pub fn field_in(text: &str, (start, end): (usize, usize)) -> Option<Field> {
     })
 }
 
+/// A text and where its data stands in it.
+#[derive(Clone, Copy)]
+pub struct Data<'a> {
+    pub text: &'a str,
+    pub start: usize,
+    pub end: usize,
+}
+
+impl<'a> Data<'a> {
+    /// The characters that are read.
+    pub fn read(self) -> &'a str {
+        &self.text[self.start..self.end]
+    }
+
+    /// Where each of them starts in the text.
+    pub fn starts(self) -> impl Iterator<Item = usize> {
+        let offsets = self.read().char_indices();
+        offsets.map(move |(at, _)| self.start + at)
+    }
+}
+
+/// The data that is read, or the number of the refusal that comes before.
+pub fn data_in(text: &[u8]) -> Result<Data<'_>, u32> {
+    if text.len() > TEXT {
+        return Err(1);
+    }
+    let text = str::from_utf8(text).map_err(|_| 3_u32)?;
+    if text.chars().all(is_blank) {
+        return Err(4);
+    }
+    let (start, end) = data_of(text).ok_or(5_u32)?;
+    Ok(Data { text, start, end })
+}
+
 /// Where the data stands; none in field form without a data field.
 fn data_of(text: &str) -> Option<(usize, usize)> {
     if !text.contains('@') {
@@ -372,6 +426,16 @@ fn data_of(text: &str) -> Option<(usize, usize)> {
         start = end + 1;
     }
     if form { data } else { Some((0, text.len())) }
+}
+
+/// The tokens, cut from the left.
+pub fn tokens(mut data: &str) -> impl Iterator<Item = &str> {
+    std::iter::from_fn(move || {
+        let first = data.chars().next()?;
+        let (token, behind) = data.split_at(token_size(first, data));
+        data = behind;
+        Some(token)
+    })
 }
 
 /// How many bytes the token has that starts with the character `first` of `data`.

@@ -1,5 +1,7 @@
 use borrow.Author.Needs.{needs}
-use mathlib.Core.Path.{refl, _∙_}
+use Prim.Native.Nat.{ℕ}
+use mathlib.Core.Path.{refl, ap, _∙_}
+use mathlib.Core.List.{_∷_}
 use mir.Facts.{toZ-ofZ}
 use Rattle.rules.specs.Tokens.{tokenOf}
 use Rattle.decode.proofs.Laws.{first-is, size-is, raised, lowered, sharpens, flattens, natural, space, line-end, by-class}
@@ -20,6 +22,7 @@ decode-spec =
     (λ c κs. search needs)
     (λ c κs. search needs)
     (λ c κs. search needs)
+    (λ c κs. search needs)
     (λ c b value e. rw (first-is e (c .match .keys1)) (refl, tt))
     (λ c b value e. rw (first-is e (c .match .keys2)) (refl, tt))
     (λ c b value e. rw (first-is e (c .match .keys3)) (refl, tt))
@@ -30,11 +33,11 @@ decode-spec =
     (λ c b value e. rw (first-is e (c .match .keys8)) (natural value))
     (λ c b value e. rw (first-is e (c .match .keys9)) (refl, tt))
     (λ c b value e. rw (first-is e (c .match .keys10)) (refl, tt))
-    (λ c b value e. rw (first-is e (c .before .match .keys11)) (rw (c .slashes .ensures, size-is e), tt))
-    (λ c b value e. rw (first-is e (c .before .match .keys12)) (c .colon .ensures value (size-is e)))
-    (λ c b value e. rw (first-is e (c .match .keys13)) (refl, tt))
-    (λ c b value e. rw (first-is e (c .before .match .keys14)) (c .grace .ensures value (size-is e)))
-    (λ c b value e. rw (first-is e (c .match .keys15)) (refl, tt))
+    (λ c b value e. rw (first-is e (c .before .match .keys11)) (c .whole-bars .ensures value (e ∙ ap (λ (k : ℕ). k ∷ value) (first-is e (c .before .match .keys11)))))
+    (λ c b value e. rw (first-is e (c .before .match .keys12)) (rw (c .slashes .ensures, size-is e), tt))
+    (λ c b value e. rw (first-is e (c .before .match .keys13)) (c .colon .ensures value (size-is e)))
+    (λ c b value e. rw (first-is e (c .match .keys14)) (refl, tt))
+    (λ c b value e. rw (first-is e (c .before .match .keys15)) (c .grace .ensures value (size-is e)))
     (λ c b value e. rw (first-is e (c .match .keys16)) (refl, tt))
     (λ c b value e. rw (first-is e (c .match .keys17)) (refl, tt))
     (λ c b value e. rw (first-is e (c .match .keys18)) (refl, tt))

@@ -2,7 +2,7 @@
 
 use crate::random::Random;
 
-pub const INCIPITS: [&str; 16] = [
+pub const INCIPITS: [&str; 15] = [
     "%G-2$xFC@3/4 '4C8DE/4F+F^A/{8CDEF}(CDE)/",
     "%C-1$bBEA@c ,4G'C/8.6DEFG/4-G/2C-//",
     "%F-4@c/ 2,,C,G/4.E8F4GA/1C://:2D/",
@@ -15,7 +15,6 @@ pub const INCIPITS: [&str; 16] = [
     "4.'C8q6D8E/n4FxFbF/xxGbbG/G",
     "8.6{CD}{EF}/t4G(-)/2.C/",
     "$bBEAD 4C^E^G^''C/'x4FF,F/F",
-    "%G-2@c '2C(D)/=3/4C",
     "!4CDE!ff/!8{CD}{EF}!/f/i/",
     "4C+/C+-C/+C/C^E+C^E",
     "gC8qqDEr4F-/qGg^AB",
@@ -34,6 +33,18 @@ pub const RECORDS: [&str; 4] = [
     "@title:Grüße aus Köln\u{a0}\r\n@clef:F-4\r\nfür Baß\r\n@timesig:c/\r\n@data:\u{a0},4C/D\u{2003}\r\n",
     "@titre:Noël\u{202f}: « Où s’en vont »\n@data:4C\u{a0}D\u{2009}E/%é+üF\n@clef:C+3\n",
     "@title:六段の調\n\u{3000}@clef:G-2\u{3000}\n\u{2028}\n@keysig:b\u{a0}B\n@data:8.6\u{3000}{CD}𝄐!EF!f/i",
+];
+
+/// Incipits with rests of whole bars; the pattern has one length there.
+pub const REST_INCIPITS: [&str; 8] = [
+    "%G-2@c '2C(D)/4=3/C",
+    "%F-4$bBE@c =12/'4C8DE/4FG/",
+    "@3/4 =4/{8CDE}4F/=2/xF/F//",
+    "%C-3@c/ 4=//:xCD/=2/C://:=/G/",
+    "!4C=D!f/=2/i/",
+    "4C^E=^G/(=)t/(C=D)/{=E}/",
+    "gC4=qD/qqEF=r4G/=0C",
+    "@clef:G-2\n@keysig:xFC\n@title:Für Flöte\n@data:=8/'4F8GA/4=/F\n@timesig:3/4",
 ];
 
 const LETTERS: &[u8] = b"ABCDEFG";

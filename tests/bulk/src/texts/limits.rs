@@ -1,9 +1,9 @@
 //! Texts at document 01's limits, and lent sizes around what a text needs.
 
 use super::characters::WIDE_BLANKS;
-use super::incipits::{FORMS, INCIPITS, RECORDS};
+use super::incipits::{FORMS, INCIPITS, RECORDS, REST_INCIPITS};
 use crate::compare::ample;
-use crate::library::{BAR, DIAGNOSTICS, Lent, NOTE};
+use crate::library::{BAR, DIAGNOSTICS, Lent, NOTE, Reading};
 use crate::walk::Needs;
 
 /// The part again and again, cut at `size` bytes.
@@ -51,7 +51,6 @@ pub fn long_texts() -> Vec<Vec<u8>> {
         ("", "$xF C/", ""),
         ("", "@c C/", ""),
         ("", "@3/4 C/", ""),
-        ("", "=", ""),
         ("", "C\n", ""),
         ("@data:", "C", ""),
         ("@data:", " ", "C"),
@@ -122,7 +121,6 @@ pub fn long_wide_texts() -> Vec<Vec<u8>> {
         ("@timesig:", "é", "3/4\n@data:C"),
         ("@data:é", "C", "é\n@data:é"),
         ("!é", "C\u{a0}", "!f"),
-        ("", "=é", ""),
     ];
     let mut texts = Vec::new();
     for size in 65_534..=65_536 {
@@ -223,8 +221,6 @@ pub fn many_notes() -> Vec<Vec<u8>> {
         format!("{doubling}{}", fill(34_465)),
         format!("{doubling}{}", fill(34_466)),
         format!("{doubling}!i!f"),
-        format!("{doubling}{}=", fill(34_465)),
-        format!("{doubling}{}C=", fill(34_465)),
         format!("{doubling}{}/", fill(34_465)),
         format!("@data:{doubling}{}", fill(34_466)),
         "!CCCC!!ffff!!ffff!!ffff!!ffff!!ffff!!ffff!ff/i".to_string(),
@@ -246,8 +242,6 @@ pub fn sized_texts() -> Vec<Vec<u8>> {
         "C/i/i",
         "x",
         "@a:",
-        "=",
-        "C=",
         "C^E",
         "C^C^C^C^C^C^C^C",
         "C^C^C^C^C^C^C^C^C",
@@ -277,7 +271,7 @@ pub fn sized_texts() -> Vec<Vec<u8>> {
         "\u{200b}",
         "é!C漢!ü",
         "!é!f",
-        "%é+üC/é=",
+        "%é+üC/é",
         "@data:\u{3000}éC\u{a0}D\u{2028}\n@tïtle:x",
         "éC^éC^C^C^C^C^C^C^C",
         "éC\u{2009}ttttttttét",
@@ -286,6 +280,182 @@ pub fn sized_texts() -> Vec<Vec<u8>> {
     all.map(|text| text.as_bytes().to_vec())
         .chain([b"C\x80".to_vec(), b"C\xed\xa0\x80".to_vec()])
         .collect()
+}
+
+/// Texts with rests of whole bars, for the same.
+pub fn sized_rests() -> Vec<Vec<u8>> {
+    let more = [
+        "=",
+        "=1",
+        "=2",
+        "=3",
+        "=02",
+        "C=",
+        "C=2D",
+        "/=4/",
+        "=/=",
+        "==",
+        "=2=2",
+        "= 2C",
+        "=2t",
+        "=0",
+        "=00",
+        "C=0",
+        "C=1001",
+        "=0=2",
+        "!=2!f",
+        "!==!f",
+        "!C=D!ff",
+        "C!=2D!f",
+        "!=!=2f",
+        "=2/i",
+        "=2/i/i",
+        "=2i",
+        "C=2/i=",
+        "(=)",
+        "(=2)",
+        "(==;3)",
+        "(=3)=2",
+        "C(=2D)",
+        "=(C=;5)",
+        "(=tttttttt)",
+        "=tttttttt",
+        "=ttttttttt",
+        "{==}",
+        "{=2C}",
+        "C{=D}",
+        "x=C",
+        "x=3C",
+        "xC=C",
+        "xC=2C",
+        "C^=D",
+        "C^E=2^G",
+        "g=C",
+        "q=2C",
+        "qq=2Cr=",
+        "C+D=2E",
+        "=+",
+        "//:=2://",
+        "=3//:=2//",
+        "C://:=",
+        "=%F-4C",
+        "=2%F-4/C",
+        "%F-4=2",
+        "$xF =2F",
+        "@3/4 =2@c/C",
+        "é=2é",
+        "%é+üC/é=",
+        "=é2C",
+        "@data: =2 \n@title:x",
+        "@data:=3?\n@keysig:xF",
+        "@a:=2\n@data:C=2",
+        "C^C^C^C^C^C^C^C^C=2",
+    ];
+    let all = REST_INCIPITS.iter().chain(&more);
+    all.map(|text| text.as_bytes().to_vec()).collect()
+}
+
+/// Texts with rests of whole bars about 65,535 bytes long, and about 100,000 notes.
+pub fn many_rests() -> Vec<Vec<u8>> {
+    let frames = [
+        ("", "=", ""),
+        ("", "=2", ""),
+        ("", "=/", ""),
+        ("", "=é", ""),
+        ("", "=0", "C"),
+        ("=", "0", "2C"),
+        ("=", "0", "C"),
+        ("=", "9", "C"),
+        ("", "=i", ""),
+        ("", "!=!f", ""),
+        ("@data:", "=2 ", "\n"),
+    ];
+    let mut texts = Vec::new();
+    for size in 65_533..=65_537 {
+        texts.extend(frames.map(|(head, part, tail)| framed_whole(head, part, tail, size)));
+    }
+    let thousands = |count: usize| "=1000".repeat(count);
+    let doubling = format!("C{}/", "/!i!f".repeat(15));
+    let notes = [
+        thousands(99) + "=999",
+        thousands(100),
+        thousands(100) + "=",
+        thousands(100) + "=1001",
+        thousands(99) + "C=1000",
+        thousands(99) + "=999/i",
+        thousands(99) + "=999/ii",
+        thousands(99) + "!=!" + &"f".repeat(999),
+        thousands(99) + "!=!" + &"f".repeat(1_000),
+        "=1000/".repeat(100),
+        "=1000/".repeat(100) + "=2",
+        format!("{doubling}{}=", "C".repeat(34_464)),
+        format!("{doubling}{}=", "C".repeat(34_465)),
+        format!("{doubling}{}=2", "C".repeat(34_464)),
+        format!("{doubling}{}C=", "C".repeat(34_465)),
+    ];
+    texts.extend(notes.map(String::into_bytes));
+    texts
+}
+
+/// Texts with rests of whole bars, the words and cells that are lent, and the answers by document 02.
+pub fn stated() -> Vec<(Vec<u8>, Lent, Reading)> {
+    let thousands = |count: usize| "=1000".repeat(count);
+    let accepted = |notes, bars, diagnostics| Reading {
+        notes,
+        bars,
+        diagnostics,
+        ..Reading::default()
+    };
+    let refused = |number, place| Reading {
+        number,
+        place,
+        ..Reading::default()
+    };
+    let ample = [
+        ("=12/C".to_string(), accepted(13, 13, 0)),
+        ("C=".to_string(), accepted(2, 1, 0)),
+        ("C+=2D".to_string(), accepted(4, 2, 0)),
+        ("8=2C".to_string(), accepted(3, 2, 0)),
+        ("C=0".to_string(), accepted(1, 1, 1)),
+        ("C=1001D".to_string(), accepted(2, 1, 1)),
+        ("=0".to_string(), refused(13, 0)),
+        ("=".repeat(65_535), accepted(65_535, 1, 0)),
+        ("=".repeat(65_536), refused(1, 0)),
+        (thousands(100), accepted(100_000, 99_901, 0)),
+        (thousands(100) + "=", refused(7, 501)),
+        (thousands(100) + "C", refused(7, 501)),
+        (thousands(100) + "^C=0", refused(7, 502)),
+        (thousands(99) + "C=1000", refused(7, 497)),
+        (thousands(99) + "=999/C", accepted(100_000, 99_901, 0)),
+        (thousands(99) + "=999/CC", refused(7, 502)),
+        ("=1000/".repeat(100), accepted(100_000, 100_000, 0)),
+        ("=1000/".repeat(100) + "=1", refused(7, 601)),
+        (
+            "=1000/".repeat(100) + "=1001",
+            accepted(100_000, 100_000, 1),
+        ),
+    ];
+    let few = [
+        ("=3", 0, 3, refused(8, 1)),
+        ("=3", 1, 0, refused(12, 1)),
+        ("=3", 1, 1, refused(8, 1)),
+        ("=3", 2, 1, refused(12, 1)),
+        ("=3", 3, 2, refused(12, 3)),
+        ("=3", 3, 3, accepted(3, 3, 0)),
+        ("C=", 2, 0, refused(12, 3)),
+        ("C=2D", 2, 0, refused(12, 2)),
+        ("C=2D", 3, 1, refused(8, 4)),
+        ("é/=2", 1, 0, refused(12, 3)),
+    ];
+    let lent = |notes, bars| Lent {
+        notes: notes * NOTE,
+        bars: bars * BAR,
+        figure: 0,
+        diagnostics: DIAGNOSTICS,
+    };
+    let ample = ample.map(|(text, due)| (text.into_bytes(), lent(100_000, 100_000), due));
+    let few = few.map(|(text, notes, bars, due)| (text.into(), lent(notes, bars), due));
+    ample.into_iter().chain(few).collect()
 }
 
 /// Word counts around `need` records.

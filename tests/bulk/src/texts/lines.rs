@@ -1,7 +1,7 @@
 //! Random texts: lines of tokens, field forms, incipits with slips; some with characters beyond ASCII, some malformed.
 
 use super::characters::{ACCENTED, EDGES, NEAR_BLANKS, WIDE_BLANKS};
-use super::incipits::{FORMS, INCIPITS, RECORDS};
+use super::incipits::{FORMS, INCIPITS, RECORDS, REST_INCIPITS};
 use crate::random::Random;
 
 const LETTERS: &[u8] = b"ABCDEFG";
@@ -109,7 +109,6 @@ enum Kind {
     Unknown,
     Blank,
     Newline,
-    MeasureRest,
     Wide,
     WideBlank,
     WideClef,
@@ -118,7 +117,7 @@ enum Kind {
 use Kind::*;
 
 /// All kinds, for slips.
-const KINDS: [Kind; 34] = [
+const KINDS: [Kind; 33] = [
     Letter,
     Few,
     Octave,
@@ -148,7 +147,6 @@ const KINDS: [Kind; 34] = [
     Unknown,
     Blank,
     Newline,
-    MeasureRest,
     Wide,
     WideBlank,
     WideClef,
@@ -299,13 +297,19 @@ const MOODS: [&[(Kind, usize)]; 13] = [
 pub struct Lines<'a> {
     random: &'a mut Random,
     text: &'a mut Vec<u8>,
+    /// Of a hundred tokens of a data line, before how many a rest of whole bars stands.
+    whole_bars: usize,
 }
 
 /// A random text in place of what stands in `text`.
 pub fn random_text(random: &mut Random, text: &mut Vec<u8>) {
     text.clear();
     let kind = random.below(100);
-    let mut lines = Lines { random, text };
+    let mut lines = Lines {
+        random,
+        text,
+        whole_bars: 0,
+    };
     match kind {
         0..57 => lines.data_line(),
         57..74 => lines.field_form(),
@@ -319,6 +323,26 @@ pub fn random_text(random: &mut Random, text: &mut Vec<u8>) {
         0..20 => lines.accented(),
         20..22 => lines.malformed(),
         _ => {}
+    }
+}
+
+/// A random text with rests of whole bars in place of what stands in `text`.
+pub fn random_rests(random: &mut Random, text: &mut Vec<u8>) {
+    text.clear();
+    let kind = random.below(100);
+    let whole_bars = [5, 10, 20, 40][random.below(4)];
+    let mut lines = Lines {
+        random,
+        text,
+        whole_bars,
+    };
+    match kind {
+        0..70 => lines.data_line(),
+        70..85 => lines.field_form(),
+        _ => lines.mutated(&REST_INCIPITS),
+    }
+    if lines.random.percent(20) {
+        lines.accented();
     }
 }
 
@@ -363,14 +387,40 @@ impl Lines<'_> {
             1..20 => 25 + self.random.below(100),
             _ => 1 + self.random.below(24),
         };
-        let whole_bars = self.random.percent(2);
         for _ in 0..count {
+            if self.random.percent(self.whole_bars) {
+                self.whole_bars();
+            }
             self.weighted(MOODS[mood]);
         }
-        if whole_bars {
-            self.token(MeasureRest);
-            self.weighted(MOODS[mood]);
+    }
+
+    /// A rest of whole bars, mostly short, some of bad counts; some where the pattern has one length, or behind a barline.
+    fn whole_bars(&mut self) {
+        self.put_any(&["", "", "", "/", "/", "/", " 4", " 8.", "/2"]);
+        self.put("=");
+        match self.random.below(1_000) {
+            0..400 => self.put_any(&["", "", "1", "01"]),
+            400..900 => self.put_any(&["2", "2", "3", "4", "02", "0003"]),
+            900..960 => self.number(60),
+            960..964 => self.number(1_000),
+            964 => self.put_any(&["999", "1000", "01000"]),
+            _ => self.put_any(&[
+                "0",
+                "00",
+                "1001",
+                "01001",
+                "65536",
+                "4294967297",
+                "99999999999999999999",
+            ]),
         }
+        self.put_any(&["", "", "", "/", " "]);
+    }
+
+    fn number(&mut self, most: usize) {
+        let number = 1 + self.random.below(most);
+        self.put(&number.to_string());
     }
 
     fn weighted(&mut self, mood: &[(Kind, usize)]) {
@@ -424,7 +474,6 @@ impl Lines<'_> {
             Unknown => self.put_byte(UNKNOWN),
             Blank => self.put_any(&BLANKS),
             Newline => self.put("\n"),
-            MeasureRest => self.put_any(&["=", "=3", "=0", "=999999"]),
             Wide => self.wide(),
             WideBlank => self.wide_blank(),
             WideClef => self.wide_clef(),
@@ -470,7 +519,7 @@ impl Lines<'_> {
     /// A mark with a wide character inside or behind it.
     fn wide_value(&mut self) {
         self.put_any(&[
-            "$x", "$", "@3", "@c", "(C;", "'", "8", "8.", "x", "/", ":", ":/", "q", "C^", "=",
+            "$x", "$", "@3", "@c", "(C;", "'", "8", "8.", "x", "/", ":", ":/", "q", "C^",
         ]);
         if self.random.percent(70) {
             self.wide();

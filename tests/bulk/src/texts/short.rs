@@ -44,5 +44,30 @@ pub const ALPHABETS: [(&str, &[u8]); 15] = [
     ("patterns, dots", b"C-8.64q/"),
     ("keys, letters, bars", b"$xbFCB/n["),
     ("clefs, meters, bars", b"%G-2@c/3 "),
-    ("fields, lines, barlines", b"@a:/C\n ="),
+    ("fields, lines, barlines", b"@a:/C\n "),
+];
+
+/// Alphabets with rests of whole bars, for the same.
+pub const REST_ALPHABETS: [(&str, &[u8]); 9] = [
+    ("figures, copies, bars", b"=4C/!fi"),
+    ("beams, groups, bars", b"=4C(){}/"),
+    ("groups, counts, trills", b"=C();3t/"),
+    ("chords, accidentals, graces", b"=4C^xgq/"),
+    ("accidentals, keys, figures", b"=4F$x/!f"),
+    ("ties, rests, copies", b"=4C+-/^i"),
+    ("barlines of all kinds", b"=2C/: i-"),
+    ("counts", b"=0124C/ "),
+    ("fields, clefs, meters", b"=%G@c:/\n"),
+];
+
+/// Parts with rests of whole bars, for all texts of up to six of them.
+pub const REST_PARTS: [(&str, [&str; 8]); 2] = [
+    (
+        "waiting marks, copies",
+        ["!C!", "^", "=", "=2", "f", "D", "x", "g"],
+    ),
+    (
+        "ties, patterns, bars",
+        ["86", "C+", "=", "=3", "/", "D", "-", "q"],
+    ),
 ];

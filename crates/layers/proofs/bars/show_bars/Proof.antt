@@ -4,10 +4,10 @@ use Rattle.layers.proofs.bars.show_bars.Statement.{statement}
 use Rattle.layers.proofs.bars.show_bars.Tie as tie
 
 abbrev Inv-loop : tie.InvT-loop
-Inv-loop bars count number₀ number = Unit {0}
+Inv-loop bars count notes number₀ t9 number = Unit {0}
 
 abbrev μ-loop : tie.MeasureT-loop
-μ-loop bars count number₀ number = count - number
+μ-loop bars count notes number₀ t9 number = count - number
 
 pub show-bars-spec : {M : Type 1} → statement M
 show-bars-spec =
@@ -22,6 +22,9 @@ show-bars-spec =
     (λ c. search needs)
     (λ c κs. search needs)
     (λ c. search needs)
+    (λ c κs. search needs)
+    (λ c. search needs)
+    (λ c κs. search needs)
     (λ c. search needs)
     (λ c. search needs)
     (λ c. search needs))

@@ -4,10 +4,10 @@ use Rattle.layers.proofs.notes.show_notes.Statement.{statement}
 use Rattle.layers.proofs.notes.show_notes.Tie as tie
 
 abbrev Inv-loop : tie.InvT-loop
-Inv-loop notes count «data» ends marks k₀ number₀ k number = Unit {0}
+Inv-loop notes count «data» ends marks k₀ number₀ t12 k number = Unit {0}
 
 abbrev μ-loop : tie.MeasureT-loop
-μ-loop notes count «data» ends marks k₀ number₀ k number = count - number
+μ-loop notes count «data» ends marks k₀ number₀ t12 k number = count - number
 
 pub show-notes-spec : {M : Type 1} → statement M
 show-notes-spec =
@@ -27,6 +27,9 @@ show-notes-spec =
     (λ c κs. search needs)
     (λ c κs. search needs)
     (λ c. search needs)
+    (λ c κs. search needs)
+    (λ c. search needs)
+    (λ c κs. search needs)
     (λ c. search needs)
     (λ c. search needs)
     (λ c. search needs))

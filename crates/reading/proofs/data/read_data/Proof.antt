@@ -16,12 +16,13 @@ use Rattle.rules.specs.Limits.{noteSize}
 use Rattle.rules.specs.Tokens as rules
 use Rattle.rules.specs.Records.{isSome, Diagnostic}
 use Rattle.rules.specs.Words.{diagnosticWords}
-use Rattle.rules.specs.Rules.{closing}
+use Rattle.rules.specs.Rules.{closing, furtherBars}
 use Rattle.rules.specs.Diagnostics.{unless}
 use Rattle.text.proofs.BoolLaws.{both}
 use Rattle.text.proofs.TokenLaws.{token-some, token-within}
 use Rattle.values.specs.Rhythm.{Keeping, keptLimit, keeping, lengthIn, firstOf}
 use Rattle.limits.specs.declared.Attributes.{Attributes}
+use Rattle.limits.specs.declared.Counts.{Counts}
 use Rattle.limits.specs.declared.Pae.{Pae}
 use Rattle.values.specs.declared.rhythm.Cursor.{Cursor}
 use Rattle.values.specs.declared.rhythm.Octave.{Octave}
@@ -32,13 +33,11 @@ use Rattle.records.specs.Groups.{closingOf}
 use Rattle.character.specs.Tails.{tailsIn}
 use Rattle.decode.specs.Decode.{tokenIn, Decoded}
 use Rattle.decode.specs.declared.Figure.{Figure}
-use Rattle.decode.specs.declared.Figure.the-variants as f
 use Rattle.decode.specs.declared.Marking.{Marking}
-use Rattle.decode.specs.declared.Marking.the-variants as m
 use Rattle.decode.specs.declared.Token.{Token}
 use Rattle.decode.specs.declared.Token.the-variants as t
-use Rattle.steps.specs.Accidentals.{Table, isNone, entry, entered, alterOf}
-use Rattle.steps.specs.Notes.{joinsOf, joinedCells, openedCells, restCells, tiedCells}
+use Rattle.steps.specs.Accidentals.{Table, cleared, isNone, entry, entered, alterOf}
+use Rattle.steps.specs.Notes.{joinsOf, joinedCells, openedCells, restCells, wholeBarCells, tiedCells}
 use Rattle.steps.specs.Relation.{countIn}
 use Rattle.steps.specs.State.{withVoice, withCounts, withAttributes, withGroups, clefSet, keySet, meterSet, barAttributes, counted, startAt, figureMarked, figureClosed, beamSet, parenSet, countSet, tieSet}
 use Rattle.steps.specs.Steps.{stepped}
@@ -48,7 +47,7 @@ use Rattle.checks.specs.Checks.{storing, checkOf}
 use Rattle.checks.specs.declared.Room.{Room}
 use Rattle.checks.proofs.TestLaws.{joins-some, repeated-small}
 use Rattle.diagnose.specs.Found.{countAfterAll, cellsAfterAll}
-use Rattle.remarks.specs.Remarks.{SpanFits, placeAt, valueFrom, spanOf, itemIn, whole, clefFound, keyFound, meterFound, markFound, countFound, groupFound}
+use Rattle.remarks.specs.Remarks.{SpanFits, placeAt, valueFrom, spanOf, itemIn, whole, after, clefFound, keyFound, meterFound, markFound, countFound, groupFound}
 use Rattle.remarks.specs.declared.Span.{Span}
 use Rattle.reading.specs.declared.data.Outcome.{Outcome}
 use Rattle.reading.specs.Cells.{figureCopied, barCopied, notesNext, barsNext, heldNext}
@@ -56,10 +55,11 @@ use Rattle.reading.specs.Data.{attributesIn, DataRead}
 use Rattle.reading.specs.Ready.{PlaceReady, Ready}
 use Rattle.reading.specs.Rhythm.{takenNext}
 use Rattle.reading.specs.Walk.{Hand, armed, withDiagnostics, remarked}
+use Rattle.reading.specs.WholeBars.{Resting, restingIn, withResting, barsAdded, Sound}
 use Rattle.reading.proofs.ClosingLaws.{closing-noted, found-noted}
 use Rattle.reading.proofs.HoldLaws.{token-bytes, Holds, further, not-beyond, step-ready}
 use Rattle.reading.proofs.PlaceLaws.{low-tails}
-use Rattle.reading.proofs.DataLaws.{begins, finishes, stops-here, advances}
+use Rattle.reading.proofs.DataLaws.{begins, finishes, stops-here, advances, rest-sound, stops-further, advances-further}
 use Rattle.reading.proofs.data.read_data.Statement.{statement}
 use Rattle.reading.proofs.data.read_data.Tie as tie
 
@@ -187,6 +187,9 @@ module _ (x : tie.After-span-of Inv-loop μ-loop) where
         ready-here =
             step-ready bytes start (attributesIn taken) (x .before .before .before .before .before .before .before .before .before .before .before .before .args .diagnostics) (x .before .before .before .before .before .before .before .before .before .before .before .before .args .scratch .now) (length (x .before .before .before .before .before .before .before .before .before .before .before .before .args .notes .now)) (length (x .before .before .before .before .before .before .before .before .before .before .before .before .args .bars .now)) (length (x .before .before .before .before .before .before .before .before .before .before .before .before .args .figure .now)) room 0 (x .before .before .before .before .before .loop .inv) (x .before .before .before .before .loop-test .taken) end (x .before .before .before .token-end .ensures) token decoded-as joined joins passes (x .before .before .before .before .before .before .before .before .before .before .before .before .pre .notesRoom) (x .before .before .before .before .before .before .before .before .before .before .before .before .pre .barsRoom) (x .before .before .before .before .before .before .before .before .before .before .before .before .pre .short) (x .before .before .before .before .before .before .before .before .before .before .before .before .pre .figureRoom)
 
+    -- it has no turn but its first
+    module _ (alone : furtherBars (tokenIn (getD bytes at 0) (valueFrom bytes at end) token) ≡ 0) where
+      module _ (joined : Bool) (joins : joining ≡ joined) (passes : checkOf token st joined notes room ≡ 0) where
         -- so many bytes up to its end continue a character, it diagnoses what was found, and all else is what `armed` says
         wide-on : {found : List (List ℤ)} {tails′ : ℕ} → tails′ ≡ made joined .tails → found ≡ remarked token st notes bytes start tails at end
             → {st′ : Pae} {count : ℕ} {table′ : Table} {k : Keeping} {cursor′ : Cursor} {notes′ bars′ held′ scratch′ : List ℤ}
@@ -196,7 +199,7 @@ module _ (x : tie.After-span-of Inv-loop μ-loop) where
             → length bars′ ≡ length bars → length held′ ≡ length figure → length scratch′ ≡ length scratch
             → Held end tails′ st′ table′ k cursor′ notes′ bars′ held′ scratch′
         wide-on continued words counts cells =
-            advances bytes start (x .before .before .before .before .before .before .before .before .before .before .before .before .args .diagnostics) (x .before .before .before .before .before .before .before .before .before .before .before .before .args .scratch .now) room taken (x .before .before .before .before .before .loop .inv) (x .before .before .before .before .loop-test .taken) end (x .before .before .before .token-end .ensures) token decoded-as joined joins passes (x .before .before .before .before .before .before .before .before .before .before .before .before .pre .notesRoom) (x .before .before .before .before .before .before .before .before .before .before .before .before .pre .barsRoom)
+            advances bytes start (x .before .before .before .before .before .before .before .before .before .before .before .before .args .diagnostics) (x .before .before .before .before .before .before .before .before .before .before .before .before .args .scratch .now) room taken (x .before .before .before .before .before .loop .inv) (x .before .before .before .before .loop-test .taken) end (x .before .before .before .token-end .ensures) token decoded-as joined joins passes (x .before .before .before .before .before .before .before .before .before .before .before .before .pre .notesRoom) (x .before .before .before .before .before .before .before .before .before .before .before .before .pre .barsRoom) alone
             continued (counts ∙ ap (countAfterAll (st .diagnostics)) words) (cells ∙ ap (cellsAfterAll scratch (st .diagnostics)) words)
 
         -- its arm leaves the bytes that continue a character alone
@@ -219,12 +222,42 @@ module _ (x : tie.After-span-of Inv-loop μ-loop) where
         silent none table state pattern cursors cells stored kept bounded =
             wide-on refl (sym none) refl refl table state pattern cursors cells stored kept bounded refl refl
 
-    -- a token that is never refused or diagnosed and touches the state alone, if that
-    quiet : checkOf token st joining notes room ≡ 0 → remarked token st notes bytes start tails at end ≡ [] → {st′ : Pae}
-        → st′ ≡ withDiagnostics (st .diagnostics) (made joining .st) → table ≡ made joining .table → held ≡ made joining .pattern → cursor ≡ made joining .cursor
-        → notes ≡ made joining .notes → bars ≡ made joining .bars → figure ≡ made joining .figure
-        → Held end (made joining .tails) st′ table held cursor notes bars figure scratch
-    quiet passes none state table pattern cursors cells stored kept = silent joining refl passes none table state pattern cursors cells stored kept refl
+      -- a token that is never refused or diagnosed and touches the state alone, if that
+      quiet : checkOf token st joining notes room ≡ 0 → remarked token st notes bytes start tails at end ≡ [] → {st′ : Pae}
+          → st′ ≡ withDiagnostics (st .diagnostics) (made joining .st) → table ≡ made joining .table → held ≡ made joining .pattern → cursor ≡ made joining .cursor
+          → notes ≡ made joining .notes → bars ≡ made joining .bars → figure ≡ made joining .figure
+          → Held end (made joining .tails) st′ table held cursor notes bars figure scratch
+      quiet passes none state table pattern cursors cells stored kept = silent joining refl passes none table state pattern cursors cells stored kept refl
+
+  -- an `=` token whose first check passes
+  module _ (count : ℕ) (is : x .before .decode .result ≡ t.WholeBars count) (passes : checkOf (t.WholeBars count) st joining notes room ≡ 0) where
+    -- after its first rest
+    abbrev rested : Resting
+    rested = record { number = 0; counts = counted 1 (st .counts); attributes = st .attributes; notes = wholeBarCells (st .counts) (placeAt at tails) notes; bars = bars }
+
+    -- with counts and cells that are so
+    module _ {n : Counts} {cells : List ℤ} (one : n ≡ rested .counts) (stored : cells ≡ wholeBarCells (st .counts) (x .span-of .result .place .0) notes) where
+      cells-are : cells ≡ rested .notes
+      cells-are = stored ∙ ap (λ (p : ℕ). wholeBarCells (st .counts) p notes) place-is
+
+      sound-here : Sound (room .notes) n cells
+      sound-here = rw (one, cells-are) (rest-sound bytes start (x .before .before .before .before .before .before .before .before .before .before .before .before .args .diagnostics) (x .before .before .before .before .before .before .before .before .before .before .before .before .args .scratch .now) room taken (x .before .before .before .before .before .loop .inv) (x .before .before .before .before .loop-test .taken) end (x .before .before .before .token-end .ensures) count (decoded-as is) joining refl passes (x .before .before .before .before .before .before .before .before .before .before .before .before .pre .notesRoom) (x .before .before .before .before .before .before .before .before .before .before .before .before .pre .barsRoom))
+
+      module _ (r : Resting) (all : r ≡ barsAdded (count - 1) room (x .span-of .result .place .0) (record { number = 0; counts = n; attributes = st .attributes; notes = cells; bars = bars })) where
+        added-here : r ≡ barsAdded (count - 1) room (placeAt at tails) rested
+        added-here = all ∙ (λ i. barsAdded (count - 1) room (place-is i) (record { number = 0; counts = one i; attributes = st .attributes; notes = cells-are i; bars = bars }))
+
+        -- a further check fails
+        stop-further : {o : Outcome} {st′ : Pae} {notes′ bars′ scratch′ : List ℤ} → o ≡ record { number = r .number; place = x .span-of .result .place .0; st = st′ } → (r .number ≡ 0 → ⊥)
+            → DataRead bytes start (x .before .before .before .before .before .before .before .before .before .before .before .before .args .attributes) (x .before .before .before .before .before .before .before .before .before .before .before .before .args .diagnostics) (x .before .before .before .before .before .before .before .before .before .before .before .before .args .scratch .now) (length (x .before .before .before .before .before .before .before .before .before .before .before .before .args .notes .now)) (length (x .before .before .before .before .before .before .before .before .before .before .before .before .args .bars .now)) room o notes′ bars′ scratch′
+        stop-further {o} {st′} {notes′} {bars′} {scratch′} stopped z =
+            subst (λ (q : Outcome). DataRead bytes start (x .before .before .before .before .before .before .before .before .before .before .before .before .args .attributes) (x .before .before .before .before .before .before .before .before .before .before .before .before .args .diagnostics) (x .before .before .before .before .before .before .before .before .before .before .before .before .args .scratch .now) (length (x .before .before .before .before .before .before .before .before .before .before .before .before .args .notes .now)) (length (x .before .before .before .before .before .before .before .before .before .before .before .before .args .bars .now)) room q notes′ bars′ scratch′) (sym (stopped ∙ (λ i. record { number = r .number; place = place-is i; st = st′ })))
+            (subst (λ (k : Attributes). DataRead bytes start k (x .before .before .before .before .before .before .before .before .before .before .before .before .args .diagnostics) (x .before .before .before .before .before .before .before .before .before .before .before .before .args .scratch .now) (length (x .before .before .before .before .before .before .before .before .before .before .before .before .args .notes .now)) (length (x .before .before .before .before .before .before .before .before .before .before .before .before .args .bars .now)) room (record { number = r .number; place = placeAt at tails; st = st′ }) notes′ bars′ scratch′) (ap (λ (k : Pae). k .attributes) (x .before .before .before .before .before .before .before .begin .ensures))
+            (stops-further bytes start (x .before .before .before .before .before .before .before .before .before .before .before .before .args .diagnostics) (x .before .before .before .before .before .before .before .before .before .before .before .before .args .scratch .now) room taken (x .before .before .before .before .before .loop .inv) (x .before .before .before .before .loop-test .taken) end (x .before .before .before .token-end .ensures) count (decoded-as is) joining refl passes (x .before .before .before .before .before .before .before .before .before .before .before .before .pre .notesRoom) (x .before .before .before .before .before .before .before .before .before .before .before .before .pre .barsRoom) r added-here z))
+
+        -- none does
+        go-further : r .number ≡ 0 → 1 < count → length (r .bars) ≡ length bars → Held end tails (withResting r st) cleared held cursor (r .notes) (r .bars) figure scratch
+        go-further = advances-further bytes start (x .before .before .before .before .before .before .before .before .before .before .before .before .args .diagnostics) (x .before .before .before .before .before .before .before .before .before .before .before .before .args .scratch .now) room taken (x .before .before .before .before .before .loop .inv) (x .before .before .before .before .loop-test .taken) end (x .before .before .before .token-end .ensures) count (decoded-as is) joining refl passes (x .before .before .before .before .before .before .before .before .before .before .before .before .pre .notesRoom) (x .before .before .before .before .before .before .before .before .before .before .before .before .pre .barsRoom) r added-here
 
 -- ---- the needs
 
@@ -307,7 +340,7 @@ loop-again c =
     let v = c .before .before .before .before .before .before .clef-of .ensures in
     let r = c .before .before .before .store-found in
     let words = c .before .before .before .before .before .clef-remarks .ensures ∙ (λ i. map diagnosticWords (clefFound (h i) (v i) (itemIn (c .before .before .before .before .before .before .before .before .before .before .before .span-of .ensures i)))) in
-    wide-on (c .before .before .before .before .before .before .before .before .before .before .before) (c .before .before .before .before .before .before .before .before .before .enum-told .given .1) (joining (c .before .before .before .before .before .before .before .before .before .before .before)) refl refl (c .tails-after .ensures) words (r .ensures .0) (r .ensures .1) refl
+    wide-on (c .before .before .before .before .before .before .before .before .before .before .before) (c .before .before .before .before .before .before .before .before .before .enum-told .given .1) refl (joining (c .before .before .before .before .before .before .before .before .before .before .before)) refl refl (c .tails-after .ensures) words (r .ensures .0) (r .ensures .1) refl
     (λ i. withDiagnostics (r .result) (withAttributes ((c .before .clef .ensures ∙ (λ j. cond (h j) (l .st .attributes) (clefSet (v j) (l .st .attributes)))) i) (l .st))) refl refl refl refl refl refl refl (r .kept .0)
 
 enum-told-2 : tie.Need-enum-told-2 Inv-loop μ-loop
@@ -351,7 +384,7 @@ loop-again-2 c =
     let v = c .before .before .before .before .before .key-of .ensures in
     let r = c .before .before .store-found2 in
     let words = c .before .before .before .before .key-remarks .ensures ∙ (λ i. map diagnosticWords (keyFound (h i) (v i) (itemIn (c .before .before .before .before .before .before .before .before .before .before .span-of .ensures i)))) in
-    go-on (c .before .before .before .before .before .before .before .before .before .before) (c .before .before .before .before .before .before .before .before .enum-told2 .given .1) (joining (c .before .before .before .before .before .before .before .before .before .before)) refl refl words (r .ensures .0) (r .ensures .1) refl
+    go-on (c .before .before .before .before .before .before .before .before .before .before) (c .before .before .before .before .before .before .before .before .enum-told2 .given .1) refl (joining (c .before .before .before .before .before .before .before .before .before .before)) refl refl words (r .ensures .0) (r .ensures .1) refl
     (λ i. withDiagnostics (r .result) (withAttributes ((c .key .ensures ∙ (λ j. cond (h j) (l .st .attributes) (keySet (v j) (l .st .attributes)))) i) (l .st))) refl refl refl refl refl refl refl (r .kept .0)
 
 enum-told-3 : tie.Need-enum-told-3 Inv-loop μ-loop
@@ -395,7 +428,7 @@ loop-again-3 c =
     let v = c .before .before .before .before .before .meter-of .ensures in
     let r = c .before .before .store-found3 in
     let words = c .before .before .before .before .meter-remarks .ensures ∙ (λ i. map diagnosticWords (meterFound (h i) (v i) (itemIn (c .before .before .before .before .before .before .before .before .before .before .span-of .ensures i)))) in
-    go-on (c .before .before .before .before .before .before .before .before .before .before) (c .before .before .before .before .before .before .before .before .enum-told3 .given .1) (joining (c .before .before .before .before .before .before .before .before .before .before)) refl refl words (r .ensures .0) (r .ensures .1) refl
+    go-on (c .before .before .before .before .before .before .before .before .before .before) (c .before .before .before .before .before .before .before .before .enum-told3 .given .1) refl (joining (c .before .before .before .before .before .before .before .before .before .before)) refl refl words (r .ensures .0) (r .ensures .1) refl
     (λ i. withDiagnostics (r .result) (withAttributes ((c .meter .ensures ∙ (λ j. cond (h j) (l .st .attributes) (meterSet (v j) (l .st .attributes)))) i) (l .st))) refl refl refl refl refl refl refl (r .kept .0)
 
 enum-known-token : tie.Need-enum-known-token Inv-loop μ-loop
@@ -409,7 +442,7 @@ loop-less-4 c = omega (arith, further-here (c .before .before .before .before .b
 
 loop-again-4 : tie.Need-loop-again-4 Inv-loop μ-loop
 unfolding remarked stepped takenNext notesNext barsNext heldNext
-loop-again-4 c = quiet (c .before .before .before .before .before .before .before) (c .before .before .before .before .before .token .given .1 ∙ ap (λ (o : Octave). t.Octave o) (c .before .before .octave .given .1)) refl refl (refl) refl refl refl refl refl refl
+loop-again-4 c = quiet (c .before .before .before .before .before .before .before) (c .before .before .before .before .before .token .given .1 ∙ ap (λ (o : Octave). t.Octave o) (c .before .before .octave .given .1)) refl refl refl (refl) refl refl refl refl refl refl
 
 enum-told-4 : tie.Need-enum-told-4 Inv-loop μ-loop
 enum-told-4 c = search needs
@@ -427,7 +460,7 @@ loop-again-5 : tie.Need-loop-again-5 Inv-loop μ-loop
 unfolding remarked stepped takenNext notesNext barsNext heldNext
 loop-again-5 c =
     let r = c .before .store-found4 in
-    go-on (c .before .before .before .before .before .before .before .before .before) (c .before .before .before .before .before .before .before .token .given .1 ∙ ap (λ (o : Octave). t.Octave o) (c .before .before .before .before .enum-told4 .given .1)) (joining (c .before .before .before .before .before .before .before .before .before)) refl refl (found-here (c .before .before .before .before .before .before .before .before .before) (λ y. whole 8 y ∷ []) (c .before .before .before .whole .ensures)) (r .ensures .0) (r .ensures .1) refl (refl) refl refl refl refl refl refl refl (r .kept .0)
+    go-on (c .before .before .before .before .before .before .before .before .before) (c .before .before .before .before .before .before .before .token .given .1 ∙ ap (λ (o : Octave). t.Octave o) (c .before .before .before .before .enum-told4 .given .1)) refl (joining (c .before .before .before .before .before .before .before .before .before)) refl refl (found-here (c .before .before .before .before .before .before .before .before .before) (λ y. whole 8 y ∷ []) (c .before .before .before .whole .ensures)) (r .ensures .0) (r .ensures .1) refl (refl) refl refl refl refl refl refl refl (r .kept .0)
 
 enum-told-5 : tie.Need-enum-told-5 Inv-loop μ-loop
 enum-told-5 c = search needs
@@ -443,7 +476,7 @@ loop-less-6 c = omega (arith, further-here (c .before .before .before .before .b
 
 loop-again-6 : tie.Need-loop-again-6 Inv-loop μ-loop
 unfolding remarked stepped takenNext notesNext barsNext heldNext
-loop-again-6 c = silent (c .before .before .before .before .before) (c .before .before .before .enum-told5 .given .1) (joining (c .before .before .before .before .before)) refl refl refl refl refl (c .before .of .ensures) (c .first2 .ensures ∙ ap (λ (k : Keeping). firstOf (k .pattern)) (c .before .of .ensures)) refl refl refl refl
+loop-again-6 c = silent (c .before .before .before .before .before) (c .before .before .before .enum-told5 .given .1) refl (joining (c .before .before .before .before .before)) refl refl refl refl refl (c .before .of .ensures) (c .first2 .ensures ∙ ap (λ (k : Keeping). firstOf (k .pattern)) (c .before .of .ensures)) refl refl refl refl
 
 enum-known-token-2 : tie.Need-enum-known-token-2 Inv-loop μ-loop
 enum-known-token-2 c = search needs
@@ -460,7 +493,7 @@ loop-again-7 c =
     let alter = c .before .before .token2 .given .0 .0 in
     let e : toZ w8 (ofZ w8 alter) ≡ alter = toZ-ofZ (record { sfits = c .before .known-told3 .given .0 .1 }) in
     let v = rw e at (c .accidental .ensures) in
-    quiet (c .before .before .before .before) (c .before .before .token2 .given .1) refl refl (λ i. withVoice (v i) (c .before .before .before .before .before .before .before .before .before .loop .st)) refl refl refl refl refl refl
+    quiet (c .before .before .before .before) (c .before .before .token2 .given .1) refl refl refl (λ i. withVoice (v i) (c .before .before .before .before .before .before .before .before .before .loop .st)) refl refl refl refl refl refl
 
 enum-known-token-3 : tie.Need-enum-known-token-3 Inv-loop μ-loop
 enum-known-token-3 c = search needs
@@ -550,7 +583,7 @@ loop-again-8 c =
     let alter : toZ w8 (ofZ w8 (a .result)) ≡ alterOf (l .st .voice .accidental) here (getD (l .st .attributes .alters) step (pos 0)) = e ∙ a .ensures ∙ ap (λ (z : ℤ). alterOf (l .st .voice .accidental) z (getD (l .st .attributes .alters) step (pos 0))) g in
     let r : toZ w8 (ofZ w8 (f .result)) ≡ f .result = toZ-ofZ (record { sfits = f .ok }) in
     let after : toZ w8 (ofZ w8 (f .result)) ≡ cond (isNone (l .st .voice .accidental)) here (l .st .voice .accidental) = r ∙ f .ensures ∙ (λ i. cond (isNone (p i)) (g i) (p i)) in
-    silent (c .before .before .before .before .before .before .before .before .before .before .before .before .before .before .before .before .before .before .before .before .before .before) (c .before .before .before .before .before .before .before .before .before .before .before .before .before .before .before .before .before .before .before .before .token3 .given .1) (c .before .before .before .before .before .before .before .before .before .before .before .before .before .before .before .before .before .joins .result) (sym (c .before .before .before .before .before .before .before .before .before .before .before .before .before .before .before .before .before .joins .ensures)) (sym (c .before .before .before .before .before .before .before .before .before .before .before .before .before .before .before .check-letter .ensures) ∙ c .before .before .before .before .before .before .before .before .before .before .before .before .before .before .if1 .left) refl (ap (entered (l .table) step (l .st .voice .octave)) after ∙ entered-lettered (l .table) step (l .st .voice)) (λ i. withCounts (c .before .counts-after .ensures i) (withVoice (c .before .before .voice-after .ensures i) (l .st))) refl (ap (λ (t : Value). t .next) v)
+    silent (c .before .before .before .before .before .before .before .before .before .before .before .before .before .before .before .before .before .before .before .before .before .before) (c .before .before .before .before .before .before .before .before .before .before .before .before .before .before .before .before .before .before .before .before .token3 .given .1) refl (c .before .before .before .before .before .before .before .before .before .before .before .before .before .before .before .before .before .joins .result) (sym (c .before .before .before .before .before .before .before .before .before .before .before .before .before .before .before .before .before .joins .ensures)) (sym (c .before .before .before .before .before .before .before .before .before .before .before .before .before .before .before .check-letter .ensures) ∙ c .before .before .before .before .before .before .before .before .before .before .before .before .before .before .if1 .left) refl (ap (entered (l .table) step (l .st .voice .octave)) after ∙ entered-lettered (l .table) step (l .st .voice)) (λ i. withCounts (c .before .counts-after .ensures i) (withVoice (c .before .before .voice-after .ensures i) (l .st))) refl (ap (λ (t : Value). t .next) v)
     (c .before .before .before .before .before .before .before .note .ensures ∙ (λ i. cond j (joinedCells (l .st .counts) (l .st .voice) step (alter i) (place-is (c .before .before .before .before .before .before .before .before .before .before .before .before .before .before .before .before .before .before .before .before .before .before) i) (l .notes)) (openedCells (l .st .counts) (l .st .voice) (lengthIn (v i)) step (alter i) (place-is (c .before .before .before .before .before .before .before .before .before .before .before .before .before .before .before .before .before .before .before .before .before .before) i) (l .notes)))) refl refl refl
 
 enum-told-6 : tie.Need-enum-told-6 Inv-loop μ-loop
@@ -561,7 +594,7 @@ loop-less-9 c = omega (arith, further-here (c .before .before .before), within-h
 
 loop-again-9 : tie.Need-loop-again-9 Inv-loop μ-loop
 unfolding remarked stepped takenNext notesNext barsNext heldNext
-loop-again-9 c = quiet (c .before .before .before) (c .before .enum-told6 .given .1) refl refl (refl) refl refl refl refl refl refl
+loop-again-9 c = quiet (c .before .before .before) (c .before .enum-told6 .given .1) refl refl refl (refl) refl refl refl refl refl refl
 
 enum-told-7 : tie.Need-enum-told-7 Inv-loop μ-loop
 enum-told-7 c = search needs
@@ -603,14 +636,14 @@ loop-again-10 : tie.Need-loop-again-10 Inv-loop μ-loop
 unfolding remarked stepped takenNext notesNext barsNext heldNext
 loop-again-10 c =
     let v = c .before .before .before .before .before .before .value-at .ensures in
-    silent (c .before .before .before .before .before .before .before .before .before .before .before .before) (c .before .before .before .before .before .before .before .before .before .before .enum-told7 .given .1) (joining (c .before .before .before .before .before .before .before .before .before .before .before .before)) refl (sym (c .before .before .before .before .before .before .before .before .before .room-for .ensures) ∙ c .before .before .before .before .before .before .before .before .if2 .left) refl refl (λ i. withCounts (c .before .counted .ensures i) (withVoice (tieSet false (c .before .before .before .before .before .before .before .before .before .before .before .before .before .before .before .before .before .loop .st .voice)) (c .before .before .before .before .before .before .before .before .before .before .before .before .before .before .before .before .before .loop .st))) refl (ap (λ (t : Value). t .next) v)
+    silent (c .before .before .before .before .before .before .before .before .before .before .before .before) (c .before .before .before .before .before .before .before .before .before .before .enum-told7 .given .1) refl (joining (c .before .before .before .before .before .before .before .before .before .before .before .before)) refl (sym (c .before .before .before .before .before .before .before .before .before .room-for .ensures) ∙ c .before .before .before .before .before .before .before .before .if2 .left) refl refl (λ i. withCounts (c .before .counted .ensures i) (withVoice (tieSet false (c .before .before .before .before .before .before .before .before .before .before .before .before .before .before .before .before .before .loop .st .voice)) (c .before .before .before .before .before .before .before .before .before .before .before .before .before .before .before .before .before .loop .st))) refl (ap (λ (t : Value). t .next) v)
     (c .before .before .before .before .rest .ensures ∙ (λ i. restCells (c .before .before .before .before .before .before .before .before .before .before .before .before .before .before .before .before .before .loop .st .counts) (lengthIn (v i)) (place-is (c .before .before .before .before .before .before .before .before .before .before .before .before) i) (c .before .before .before .before .before .before .before .before .before .before .before .before .before .before .before .before .before .loop .notes))) refl refl refl
 
 enum-known-token-4 : tie.Need-enum-known-token-4 Inv-loop μ-loop
 enum-known-token-4 c = search needs
 
-check-bar-requires : tie.Need-check-bar-requires Inv-loop μ-loop
-check-bar-requires c κs = tt
+room-for-requires-2 : tie.Need-room-for-requires-2 Inv-loop μ-loop
+room-for-requires-2 c κs = (c .before .before .before .before .before .before .before .before .loop .inv .related .stored .capped, omega arith)
 
 stopped-requires-3 : tie.Need-stopped-requires-3 Inv-loop μ-loop
 stopped-requires-3 c κs = tt
@@ -628,10 +661,108 @@ same-length-12 : tie.Need-same-length-12 Inv-loop μ-loop
 same-length-12 c = c .before .before .before .before .before .before .before .before .before .before .before .loop .inv .scratchLength
 
 returns-3 : tie.Need-returns-3 Inv-loop μ-loop
-returns-3 c = stop-here (c .before .before .before .before .before .before) (c .before .before .before .before .token4 .given .1) (joining (c .before .before .before .before .before .before)) refl (c .before .before .check-bar .result) (c .stopped3 .ensures) (c .before .before .check-bar .ensures) (c .before .if3 .taken)
+returns-3 c = stop-here (c .before .before .before .before .before .before) (c .before .before .before .before .token4 .given .1) (joining (c .before .before .before .before .before .before)) refl (c .before .before .room-for2 .result) (c .stopped3 .ensures) (c .before .before .room-for2 .ensures) (c .before .if3 .taken)
+
+whole-bar-rest-requires : tie.Need-whole-bar-rest-requires Inv-loop μ-loop
+whole-bar-rest-requires c κs = let r = ready-here (c .before .before .before .before .before .before) (c .before .before .before .before .token4 .given .1) (joining (c .before .before .before .before .before .before)) refl (sym (c .before .before .room-for2 .ensures) ∙ c .before .if3 .left) .asked in (r .0 .place .0, fits-here (c .before .before .before .before .before .before) .0, r .0 .within .bars, r .1)
+
+counted-requires-2 : tie.Need-counted-requires-2 Inv-loop μ-loop
+counted-requires-2 c κs = (omega (arith, c .before .before .before .before .before .before .before .before .before .before .before .before .before .loop .inv .related .stored .capped), omega arith)
+
+loop-less-11 : tie.Need-loop-less-11 Inv-loop μ-loop
+loop-less-11 c = omega (arith, further-here (c .before .before .before .before .before .before .before .before .before .before), within-here (c .before .before .before .before .before .before .before .before .before .before))
+
+loop-again-11 : tie.Need-loop-again-11 Inv-loop μ-loop
+unfolding remarked stepped takenNext notesNext barsNext heldNext
+loop-again-11 c =
+    let one : c .before .before .before .before .before .before .before .before .token4 .given .0 .0 - 1 ≡ 0 = omega (arith, c .if4 .taken) in
+    silent (c .before .before .before .before .before .before .before .before .before .before) (c .before .before .before .before .before .before .before .before .token4 .given .1) one (joining (c .before .before .before .before .before .before .before .before .before .before)) refl (sym (c .before .before .before .before .before .before .room-for2 .ensures) ∙ c .before .before .before .before .before .if3 .left) refl refl (λ i. withCounts (c .before .counted2 .ensures i) (c .before .before .before .before .before .before .before .before .before .before .before .before .before .before .before .loop .st)) refl refl
+    (c .before .before .before .whole-bar-rest .ensures ∙ (λ i. wholeBarCells (c .before .before .before .before .before .before .before .before .before .before .before .before .before .before .before .loop .st .counts) (place-is (c .before .before .before .before .before .before .before .before .before .before) i) (c .before .before .before .before .before .before .before .before .before .before .before .before .before .before .before .loop .notes))) refl refl refl
+
+sub-further-bars : tie.Need-sub-further-bars Inv-loop μ-loop
+sub-further-bars c = decoded-as (c .before .before .before .before .before .before .before .before .before .before) (c .before .before .before .before .before .before .before .before .token4 .given .1) .1 .0
+
+further-bars-requires : tie.Need-further-bars-requires Inv-loop μ-loop
+further-bars-requires c κs = (sound-here (c .before .before .before .before .before .before .before .before .before .before .before .before) (c .before .before .before .before .before .before .before .before .before .before .token4 .given .0 .0) (c .before .before .before .before .before .before .before .before .before .before .token4 .given .1) (sym (c .before .before .before .before .before .before .before .before .room-for2 .ensures) ∙ c .before .before .before .before .before .before .before .if3 .left) (c .before .before .before .counted2 .ensures) (c .before .before .before .before .before .whole-bar-rest .ensures), omega (arith, c .before .before .before .before .before .before .before .before .before .before .before .before .before .before .before .before .before .before .before .before .before .before .before .before .pre .barsRoom, c .before .before .before .before .before .before .before .before .before .before .before .before .before .before .before .before .before .loop .inv .barsLength), fits-here (c .before .before .before .before .before .before .before .before .before .before .before .before) .0)
+
+stopped-requires-4 : tie.Need-stopped-requires-4 Inv-loop μ-loop
+stopped-requires-4 c κs = tt
+
+same-length-13 : tie.Need-same-length-13 Inv-loop μ-loop
+same-length-13 c = c .before .before .before .before .before .further-bars .kept .1 .1 .1 .0 ∙ c .before .before .before .before .before .before .before .before .before .before .before .whole-bar-rest .kept .0 ∙ length-notes (c .before .before .before .before .before .before .before .before .before .before .before .before .before .before .before .before .before .before .before .before .before .before .before .loop .inv .related .stored)
+
+same-length-14 : tie.Need-same-length-14 Inv-loop μ-loop
+same-length-14 c = c .before .before .before .before .before .further-bars .kept .1 .1 .1 .1 .0 ∙ c .before .before .before .before .before .before .before .before .before .before .before .before .before .before .before .before .before .before .before .before .before .before .before .loop .inv .barsLength
+
+same-length-15 : tie.Need-same-length-15 Inv-loop μ-loop
+same-length-15 c = c .before .before .before .before .before .before .before .before .before .before .before .before .before .before .before .before .before .before .before .before .before .before .before .loop .inv .figureLength
+
+same-length-16 : tie.Need-same-length-16 Inv-loop μ-loop
+same-length-16 c = c .before .before .before .before .before .before .before .before .before .before .before .before .before .before .before .before .before .before .before .before .before .before .before .loop .inv .scratchLength
+
+returns-4 : tie.Need-returns-4 Inv-loop μ-loop
+returns-4 c =
+    let r = restingIn (c .before .before .before .before .before .further-bars .result) (c .before .before .before .before .before .further-bars .last .1 .1 .1 .0) (c .before .before .before .before .before .further-bars .last .1 .1 .1 .1 .0) in
+    stop-further (c .before .before .before .before .before .before .before .before .before .before .before .before .before .before .before .before .before .before) (c .before .before .before .before .before .before .before .before .before .before .before .before .before .before .before .before .token4 .given .0 .0) (c .before .before .before .before .before .before .before .before .before .before .before .before .before .before .before .before .token4 .given .1) (sym (c .before .before .before .before .before .before .before .before .before .before .before .before .before .before .room-for2 .ensures) ∙ c .before .before .before .before .before .before .before .before .before .before .before .before .before .if3 .left) (c .before .before .before .before .before .before .before .before .before .counted2 .ensures) (c .before .before .before .before .before .before .before .before .before .before .before .whole-bar-rest .ensures) r (c .before .before .before .before .before .further-bars .ensures) (c .stopped4 .ensures) (c .before .if5 .taken)
+
+cleared-requires-2 : tie.Need-cleared-requires-2 Inv-loop μ-loop
+cleared-requires-2 c κs = tt
+
+loop-less-12 : tie.Need-loop-less-12 Inv-loop μ-loop
+loop-less-12 c = omega (arith, further-here (c .before .before .before .before .before .before .before .before .before .before .before .before .before .before .before .before .before .before .before .before), within-here (c .before .before .before .before .before .before .before .before .before .before .before .before .before .before .before .before .before .before .before .before))
+
+loop-again-12 : tie.Need-loop-again-12 Inv-loop μ-loop
+unfolding remarked stepped takenNext notesNext barsNext heldNext
+loop-again-12 c =
+    let r = restingIn (c .before .before .before .before .before .before .before .further-bars .result) (c .before .before .before .before .before .before .before .further-bars .last .1 .1 .1 .0) (c .before .before .before .before .before .before .before .further-bars .last .1 .1 .1 .1 .0) in
+    subst (λ (l : Table). Held (c .before .before .before .before .before .before .before .before .before .before .before .before .before .before .before .before .before .before .before .before) (c .before .before .before .before .before .before .before .before .before .before .before .before .before .before .before .before .before .before .before .before .before .before .before .token-end .result) (c .before .before .before .before .before .before .before .before .before .before .before .before .before .before .before .before .before .before .before .before .before .before .before .before .before .loop .tails) (withResting r (c .before .before .before .before .before .before .before .before .before .before .before .before .before .before .before .before .before .before .before .before .before .before .before .before .before .loop .st)) l (held (c .before .before .before .before .before .before .before .before .before .before .before .before .before .before .before .before .before .before .before .before)) (c .before .before .before .before .before .before .before .before .before .before .before .before .before .before .before .before .before .before .before .before .before .before .before .before .before .loop .cursor) (r .notes) (r .bars) (c .before .before .before .before .before .before .before .before .before .before .before .before .before .before .before .before .before .before .before .before .before .before .before .before .before .loop .figure) (c .before .before .before .before .before .before .before .before .before .before .before .before .before .before .before .before .before .before .before .before .before .before .before .before .before .loop .scratch)) (sym (c .cleared2 .ensures))
+    (go-further (c .before .before .before .before .before .before .before .before .before .before .before .before .before .before .before .before .before .before .before .before) (c .before .before .before .before .before .before .before .before .before .before .before .before .before .before .before .before .before .before .token4 .given .0 .0) (c .before .before .before .before .before .before .before .before .before .before .before .before .before .before .before .before .before .before .token4 .given .1) (sym (c .before .before .before .before .before .before .before .before .before .before .before .before .before .before .before .before .room-for2 .ensures) ∙ c .before .before .before .before .before .before .before .before .before .before .before .before .before .before .before .if3 .left) (c .before .before .before .before .before .before .before .before .before .before .before .counted2 .ensures) (c .before .before .before .before .before .before .before .before .before .before .before .before .before .whole-bar-rest .ensures) r (c .before .before .before .before .before .before .before .further-bars .ensures) (c .before .before .before .if5 .left)
+    (omega (arith, decoded-as (c .before .before .before .before .before .before .before .before .before .before .before .before .before .before .before .before .before .before .before .before) (c .before .before .before .before .before .before .before .before .before .before .before .before .before .before .before .before .before .before .token4 .given .1) .1 .0, c .before .before .before .before .before .before .before .before .before .before .if4 .left)) (c .before .before .before .before .before .before .before .further-bars .kept .1 .1 .1 .1 .0))
+
+enum-told-8 : tie.Need-enum-told-8 Inv-loop μ-loop
+enum-told-8 c = search needs
+
+after-first-requires : tie.Need-after-first-requires Inv-loop μ-loop
+after-first-requires c κs = fits-here (c .before .before)
+
+store-found-requires-5 : tie.Need-store-found-requires-5 Inv-loop μ-loop
+store-found-requires-5 c κs = tt
+
+loop-less-13 : tie.Need-loop-less-13 Inv-loop μ-loop
+loop-less-13 c = omega (arith, further-here (c .before .before .before .before .before .before), within-here (c .before .before .before .before .before .before))
+
+loop-again-13 : tie.Need-loop-again-13 Inv-loop μ-loop
+unfolding remarked stepped takenNext notesNext barsNext heldNext
+loop-again-13 c =
+    let r = c .before .store-found5 in
+    go-on (c .before .before .before .before .before .before) (c .before .before .before .before .enum-told8 .given .1) refl (joining (c .before .before .before .before .before .before)) refl refl (found-here (c .before .before .before .before .before .before) (λ y. after 20 y ∷ []) (c .before .before .before .after-first .ensures)) (r .ensures .0) (r .ensures .1) refl (refl) refl refl refl refl refl refl refl (r .kept .0)
+
+enum-known-token-5 : tie.Need-enum-known-token-5 Inv-loop μ-loop
+enum-known-token-5 c = search needs
+
+check-bar-requires : tie.Need-check-bar-requires Inv-loop μ-loop
+check-bar-requires c κs = tt
+
+stopped-requires-5 : tie.Need-stopped-requires-5 Inv-loop μ-loop
+stopped-requires-5 c κs = tt
+
+same-length-17 : tie.Need-same-length-17 Inv-loop μ-loop
+same-length-17 c = length-notes (c .before .before .before .before .before .before .before .before .before .before .before .loop .inv .related .stored)
+
+same-length-18 : tie.Need-same-length-18 Inv-loop μ-loop
+same-length-18 c = c .before .before .before .before .before .before .before .before .before .before .before .loop .inv .barsLength
+
+same-length-19 : tie.Need-same-length-19 Inv-loop μ-loop
+same-length-19 c = c .before .before .before .before .before .before .before .before .before .before .before .loop .inv .figureLength
+
+same-length-20 : tie.Need-same-length-20 Inv-loop μ-loop
+same-length-20 c = c .before .before .before .before .before .before .before .before .before .before .before .loop .inv .scratchLength
+
+returns-5 : tie.Need-returns-5 Inv-loop μ-loop
+returns-5 c = stop-here (c .before .before .before .before .before .before) (c .before .before .before .before .token5 .given .1) (joining (c .before .before .before .before .before .before)) refl (c .before .before .check-bar .result) (c .stopped5 .ensures) (c .before .before .check-bar .ensures) (c .before .if6 .taken)
 
 store-bar-requires : tie.Need-store-bar-requires Inv-loop μ-loop
-store-bar-requires c κs = ready-here (c .before .before .before .before .before .before) (c .before .before .before .before .token4 .given .1) (joining (c .before .before .before .before .before .before)) refl (sym (c .before .before .check-bar .ensures) ∙ c .before .if3 .left) .asked
+store-bar-requires c κs = ready-here (c .before .before .before .before .before .before) (c .before .before .before .before .token5 .given .1) (joining (c .before .before .before .before .before .before)) refl (sym (c .before .before .check-bar .ensures) ∙ c .before .if6 .left) .asked
 
 has-content-requires-4 : tie.Need-has-content-requires-4 Inv-loop μ-loop
 has-content-requires-4 c κs = tt
@@ -640,78 +771,78 @@ bar-attributes-requires : tie.Need-bar-attributes-requires Inv-loop μ-loop
 bar-attributes-requires c κs = tt
 
 bar-counted-requires : tie.Need-bar-counted-requires Inv-loop μ-loop
-bar-counted-requires c κs = omega (arith, c .before .before .before .before .before .before .before .before .before .before .before .before .before .before .before .loop .inv .few, c .before .before .before .before .before .before .before .before .before .before .before .before .before .before .loop-test .taken, c .before .before .before .before .before .before .before .before .before .before .before .before .before .before .before .before .before .before .before .before .before .before .pre .short)
+bar-counted-requires c κs = omega (arith, c .before .before .before .before .before .before .before .before .before .before .before .before .before .before .before .loop .inv .few, first-below (c .before .before .before .before .before .before .before .before .before .before .before .before .before .before .before .loop .inv .related .stored), c .before .before .before .before .before .before .before .before .before .before .before .before .before .before .before .loop .inv .related .stored .capped)
 
-cleared-requires-2 : tie.Need-cleared-requires-2 Inv-loop μ-loop
-cleared-requires-2 c κs = tt
+cleared-requires-3 : tie.Need-cleared-requires-3 Inv-loop μ-loop
+cleared-requires-3 c κs = tt
 
-loop-less-11 : tie.Need-loop-less-11 Inv-loop μ-loop
-loop-less-11 c = omega (arith, further-here (c .before .before .before .before .before .before .before .before .before .before .before .before), within-here (c .before .before .before .before .before .before .before .before .before .before .before .before))
+loop-less-14 : tie.Need-loop-less-14 Inv-loop μ-loop
+loop-less-14 c = omega (arith, further-here (c .before .before .before .before .before .before .before .before .before .before .before .before), within-here (c .before .before .before .before .before .before .before .before .before .before .before .before))
 
-loop-again-11 : tie.Need-loop-again-11 Inv-loop μ-loop
+loop-again-14 : tie.Need-loop-again-14 Inv-loop μ-loop
 unfolding remarked stepped takenNext notesNext barsNext heldNext
-loop-again-11 c =
-    let b = c .before .before .before .before .before .before .before .before .before .before .token4 .given .0 in
-    silent (c .before .before .before .before .before .before .before .before .before .before .before .before) (c .before .before .before .before .before .before .before .before .before .before .token4 .given .1) (joining (c .before .before .before .before .before .before .before .before .before .before .before .before)) refl (sym (c .before .before .before .before .before .before .before .before .check-bar .ensures) ∙ c .before .before .before .before .before .before .before .if3 .left) refl (c .cleared2 .ensures)
+loop-again-14 c =
+    let b = c .before .before .before .before .before .before .before .before .before .before .token5 .given .0 in
+    silent (c .before .before .before .before .before .before .before .before .before .before .before .before) (c .before .before .before .before .before .before .before .before .before .before .token5 .given .1) refl (joining (c .before .before .before .before .before .before .before .before .before .before .before .before)) refl (sym (c .before .before .before .before .before .before .before .before .check-bar .ensures) ∙ c .before .before .before .before .before .before .before .if6 .left) refl (c .cleared3 .ensures)
     (λ i. withCounts (c .before .bar-counted .ensures i) (withAttributes ((c .before .before .bar-attributes .ensures ∙ ap (λ (content : Bool). barAttributes content (b .0 .left) (c .before .before .before .before .before .before .before .before .before .before .before .before .before .before .before .before .before .loop .st .attributes)) (c .before .before .before .has-content4 .ensures)) i) (c .before .before .before .before .before .before .before .before .before .before .before .before .before .before .before .before .before .loop .st))) refl refl refl (c .before .before .before .before .before .store-bar .ensures) refl (c .before .before .before .before .before .store-bar .kept .0)
-
-enum-known-token-5 : tie.Need-enum-known-token-5 Inv-loop μ-loop
-enum-known-token-5 c = search needs
-
-grace-requires : tie.Need-grace-requires Inv-loop μ-loop
-grace-requires c κs = tt
-
-loop-less-12 : tie.Need-loop-less-12 Inv-loop μ-loop
-loop-less-12 c = omega (arith, further-here (c .before .before .before .before), within-here (c .before .before .before .before))
-
-loop-again-12 : tie.Need-loop-again-12 Inv-loop μ-loop
-unfolding remarked stepped takenNext notesNext barsNext heldNext
-loop-again-12 c = quiet (c .before .before .before .before) (c .before .before .token5 .given .1) refl refl (λ i. withVoice (c .grace .ensures i) (c .before .before .before .before .before .before .before .before .before .loop .st)) refl refl refl refl refl refl
 
 enum-known-token-6 : tie.Need-enum-known-token-6 Inv-loop μ-loop
 enum-known-token-6 c = search needs
 
-unless-requires : tie.Need-unless-requires Inv-loop μ-loop
-unless-requires c κs = fits-here (c .before .before .before .before)
+grace-requires : tie.Need-grace-requires Inv-loop μ-loop
+grace-requires c κs = tt
 
-store-found-requires-5 : tie.Need-store-found-requires-5 Inv-loop μ-loop
-store-found-requires-5 c κs = tt
+loop-less-15 : tie.Need-loop-less-15 Inv-loop μ-loop
+loop-less-15 c = omega (arith, further-here (c .before .before .before .before), within-here (c .before .before .before .before))
 
-loop-less-13 : tie.Need-loop-less-13 Inv-loop μ-loop
-loop-less-13 c = omega (arith, further-here (c .before .before .before .before .before .before .before .before .before), within-here (c .before .before .before .before .before .before .before .before .before))
-
-loop-again-13 : tie.Need-loop-again-13 Inv-loop μ-loop
+loop-again-15 : tie.Need-loop-again-15 Inv-loop μ-loop
 unfolding remarked stepped takenNext notesNext barsNext heldNext
-loop-again-13 c =
-    let r = c .before .before .store-found5 in
-    go-on (c .before .before .before .before .before .before .before .before .before) (c .before .before .before .before .before .before .before .token6 .given .1) (joining (c .before .before .before .before .before .before .before .before .before)) refl refl (found-here (c .before .before .before .before .before .before .before .before .before) (λ y. unless (c .before .before .before .before .before .before .before .token6 .given .0 .0 || c .before .before .before .before .before .before .before .before .before .before .before .before .before .before .loop .st .voice .group) (whole 15 y)) (c .before .before .before .before .unless .ensures)) (r .ensures .0) (r .ensures .1) refl (refl) refl refl refl refl refl refl refl (r .kept .0)
+loop-again-15 c = quiet (c .before .before .before .before) (c .before .before .token6 .given .1) refl refl refl (λ i. withVoice (c .grace .ensures i) (c .before .before .before .before .before .before .before .before .before .loop .st)) refl refl refl refl refl refl
 
 enum-known-token-7 : tie.Need-enum-known-token-7 Inv-loop μ-loop
 enum-known-token-7 c = search needs
 
-enum-told-8 : tie.Need-enum-told-8 Inv-loop μ-loop
-enum-told-8 c = search needs
+unless-requires : tie.Need-unless-requires Inv-loop μ-loop
+unless-requires c κs = fits-here (c .before .before .before .before)
+
+store-found-requires-6 : tie.Need-store-found-requires-6 Inv-loop μ-loop
+store-found-requires-6 c κs = tt
+
+loop-less-16 : tie.Need-loop-less-16 Inv-loop μ-loop
+loop-less-16 c = omega (arith, further-here (c .before .before .before .before .before .before .before .before .before), within-here (c .before .before .before .before .before .before .before .before .before))
+
+loop-again-16 : tie.Need-loop-again-16 Inv-loop μ-loop
+unfolding remarked stepped takenNext notesNext barsNext heldNext
+loop-again-16 c =
+    let r = c .before .before .store-found6 in
+    go-on (c .before .before .before .before .before .before .before .before .before) (c .before .before .before .before .before .before .before .token7 .given .1) refl (joining (c .before .before .before .before .before .before .before .before .before)) refl refl (found-here (c .before .before .before .before .before .before .before .before .before) (λ y. unless (c .before .before .before .before .before .before .before .token7 .given .0 .0 || c .before .before .before .before .before .before .before .before .before .before .before .before .before .before .loop .st .voice .group) (whole 15 y)) (c .before .before .before .before .unless .ensures)) (r .ensures .0) (r .ensures .1) refl (refl) refl refl refl refl refl refl refl (r .kept .0)
+
+enum-known-token-8 : tie.Need-enum-known-token-8 Inv-loop μ-loop
+enum-known-token-8 c = search needs
+
+enum-told-9 : tie.Need-enum-told-9 Inv-loop μ-loop
+enum-told-9 c = search needs
 
 check-mark-requires : tie.Need-check-mark-requires Inv-loop μ-loop
 check-mark-requires c κs = first-below (c .before .before .before .before .before .before .before .before .before .before .loop .inv .related .stored)
 
-stopped-requires-4 : tie.Need-stopped-requires-4 Inv-loop μ-loop
-stopped-requires-4 c κs = tt
+stopped-requires-6 : tie.Need-stopped-requires-6 Inv-loop μ-loop
+stopped-requires-6 c κs = tt
 
-same-length-13 : tie.Need-same-length-13 Inv-loop μ-loop
-same-length-13 c = length-notes (c .before .before .before .before .before .before .before .before .before .before .before .before .before .loop .inv .related .stored)
+same-length-21 : tie.Need-same-length-21 Inv-loop μ-loop
+same-length-21 c = length-notes (c .before .before .before .before .before .before .before .before .before .before .before .before .before .loop .inv .related .stored)
 
-same-length-14 : tie.Need-same-length-14 Inv-loop μ-loop
-same-length-14 c = c .before .before .before .before .before .before .before .before .before .before .before .before .before .loop .inv .barsLength
+same-length-22 : tie.Need-same-length-22 Inv-loop μ-loop
+same-length-22 c = c .before .before .before .before .before .before .before .before .before .before .before .before .before .loop .inv .barsLength
 
-same-length-15 : tie.Need-same-length-15 Inv-loop μ-loop
-same-length-15 c = c .before .before .before .before .before .before .before .before .before .before .before .before .before .loop .inv .figureLength
+same-length-23 : tie.Need-same-length-23 Inv-loop μ-loop
+same-length-23 c = c .before .before .before .before .before .before .before .before .before .before .before .before .before .loop .inv .figureLength
 
-same-length-16 : tie.Need-same-length-16 Inv-loop μ-loop
-same-length-16 c = c .before .before .before .before .before .before .before .before .before .before .before .before .before .loop .inv .scratchLength
+same-length-24 : tie.Need-same-length-24 Inv-loop μ-loop
+same-length-24 c = c .before .before .before .before .before .before .before .before .before .before .before .before .before .loop .inv .scratchLength
 
-returns-4 : tie.Need-returns-4 Inv-loop μ-loop
-returns-4 c = stop-here (c .before .before .before .before .before .before .before .before) (c .before .before .before .before .before .before .token7 .given .1 ∙ ap (λ (w : Figure). t.Figure w) (c .before .before .before .enum-told8 .given .1)) (joining (c .before .before .before .before .before .before .before .before)) refl (c .before .before .check-mark .result) (c .stopped4 .ensures) (c .before .before .check-mark .ensures) (c .before .if4 .taken)
+returns-6 : tie.Need-returns-6 Inv-loop μ-loop
+returns-6 c = stop-here (c .before .before .before .before .before .before .before .before) (c .before .before .before .before .before .before .token8 .given .1 ∙ ap (λ (w : Figure). t.Figure w) (c .before .before .before .enum-told9 .given .1)) (joining (c .before .before .before .before .before .before .before .before)) refl (c .before .before .check-mark .result) (c .stopped6 .ensures) (c .before .before .check-mark .ensures) (c .before .if7 .taken)
 
 open-length-requires : tie.Need-open-length-requires Inv-loop μ-loop
 open-length-requires c κs = first-below (c .before .before .before .before .before .before .before .before .before .before .before .before .loop .inv .related .stored)
@@ -719,11 +850,11 @@ open-length-requires c κs = first-below (c .before .before .before .before .bef
 mark-found-requires : tie.Need-mark-found-requires Inv-loop μ-loop
 mark-found-requires c κs = fits-here (c .before .before .before .before .before .before .before .before)
 
-store-found-requires-6 : tie.Need-store-found-requires-6 Inv-loop μ-loop
-store-found-requires-6 c κs = tt
+store-found-requires-7 : tie.Need-store-found-requires-7 Inv-loop μ-loop
+store-found-requires-7 c κs = tt
 
 figure-mark-requires : tie.Need-figure-mark-requires Inv-loop μ-loop
-figure-mark-requires c κs = ready-here (c .before .before .before .before .before .before .before .before .before .before .before .before .before .before) (c .before .before .before .before .before .before .before .before .before .before .before .before .token7 .given .1 ∙ ap (λ (w : Figure). t.Figure w) (c .before .before .before .before .before .before .before .before .before .enum-told8 .given .1)) (joining (c .before .before .before .before .before .before .before .before .before .before .before .before .before .before)) refl (sym (c .before .before .before .before .before .before .before .before .check-mark .ensures) ∙ c .before .before .before .before .before .before .before .if4 .left) .asked
+figure-mark-requires c κs = ready-here (c .before .before .before .before .before .before .before .before .before .before .before .before .before .before) (c .before .before .before .before .before .before .before .before .before .before .before .before .token8 .given .1 ∙ ap (λ (w : Figure). t.Figure w) (c .before .before .before .before .before .before .before .before .before .enum-told9 .given .1)) (joining (c .before .before .before .before .before .before .before .before .before .before .before .before .before .before)) refl (sym (c .before .before .before .before .before .before .before .before .check-mark .ensures) ∙ c .before .before .before .before .before .before .before .if7 .left) .asked
 
 figure-closed-requires : tie.Need-figure-closed-requires Inv-loop μ-loop
 figure-closed-requires c κs = tt
@@ -731,94 +862,94 @@ figure-closed-requires c κs = tt
 figure-marked-requires : tie.Need-figure-marked-requires Inv-loop μ-loop
 figure-marked-requires c κs = tt
 
-loop-less-14 : tie.Need-loop-less-14 Inv-loop μ-loop
-loop-less-14 c = omega (arith, further-here (c .before .before .before .before .before .before .before .before .before .before .before .before .before .before .before .before .before .before), within-here (c .before .before .before .before .before .before .before .before .before .before .before .before .before .before .before .before .before .before))
+loop-less-17 : tie.Need-loop-less-17 Inv-loop μ-loop
+loop-less-17 c = omega (arith, further-here (c .before .before .before .before .before .before .before .before .before .before .before .before .before .before .before .before .before .before), within-here (c .before .before .before .before .before .before .before .before .before .before .before .before .before .before .before .before .before .before))
 
-loop-again-14 : tie.Need-loop-again-14 Inv-loop μ-loop
+loop-again-17 : tie.Need-loop-again-17 Inv-loop μ-loop
 unfolding remarked stepped takenNext notesNext barsNext heldNext
-loop-again-14 c =
+loop-again-17 c =
     let s = c .before .before .before .before .before .before .before .before .before .before .before .before .before .before .before .before .before .before .before .before .before .before .before .loop .st in
     let n = c .before .before .before .before .before .before .before .before .before .before .open-length .ensures in
-    let r = c .before .before .before .before .before .before .before .store-found6 in
+    let r = c .before .before .before .before .before .before .before .store-found7 in
     let words = c .before .before .before .before .before .before .before .before .before .mark-found .ensures ∙ (λ i. map diagnosticWords (markFound (s .groups .figure) (n i) (itemIn (c .before .before .before .before .before .before .before .before .before .before .before .before .before .before .before .before .before .before .span-of .ensures i)))) in
-    go-on (c .before .before .before .before .before .before .before .before .before .before .before .before .before .before .before .before .before .before) (c .before .before .before .before .before .before .before .before .before .before .before .before .before .before .before .before .token7 .given .1 ∙ ap (λ (w : Figure). t.Figure w) (c .before .before .before .before .before .before .before .before .before .before .before .before .before .enum-told8 .given .1)) (joining (c .before .before .before .before .before .before .before .before .before .before .before .before .before .before .before .before .before .before)) refl (sym (c .before .before .before .before .before .before .before .before .before .before .before .before .check-mark .ensures) ∙ c .before .before .before .before .before .before .before .before .before .before .before .if4 .left) words (r .ensures .0) (r .ensures .1) refl
+    go-on (c .before .before .before .before .before .before .before .before .before .before .before .before .before .before .before .before .before .before) (c .before .before .before .before .before .before .before .before .before .before .before .before .before .before .before .before .token8 .given .1 ∙ ap (λ (w : Figure). t.Figure w) (c .before .before .before .before .before .before .before .before .before .before .before .before .before .enum-told9 .given .1)) refl (joining (c .before .before .before .before .before .before .before .before .before .before .before .before .before .before .before .before .before .before)) refl (sym (c .before .before .before .before .before .before .before .before .before .before .before .before .check-mark .ensures) ∙ c .before .before .before .before .before .before .before .before .before .before .before .if7 .left) words (r .ensures .0) (r .ensures .1) refl
     (λ i. record { attributes = s .attributes; voice = s .voice; counts = s .counts; groups = (c .figure-marked .ensures ∙ ap (λ (k : ℕ). figureMarked k (s .groups)) n) i; figure = (c .before .figure-closed .ensures ∙ ap (λ (k : ℕ). figureClosed (s .groups) k (s .figure)) n) i; diagnostics = r .result })
     refl refl refl refl (c .before .before .before .figure-mark .ensures) refl (c .before .before .before .figure-mark .kept .1 .1 .1 .0) (r .kept .0)
-
-enum-told-9 : tie.Need-enum-told-9 Inv-loop μ-loop
-enum-told-9 c = search needs
-
-room-for-requires-2 : tie.Need-room-for-requires-2 Inv-loop μ-loop
-room-for-requires-2 c κs = (c .before .before .before .before .before .before .before .before .before .before .loop .inv .related .stored .capped, c .before .before .before .before .before .before .before .before .before .before .loop .inv .small)
-
-stopped-requires-5 : tie.Need-stopped-requires-5 Inv-loop μ-loop
-stopped-requires-5 c κs = tt
-
-same-length-17 : tie.Need-same-length-17 Inv-loop μ-loop
-same-length-17 c = length-notes (c .before .before .before .before .before .before .before .before .before .before .before .before .before .loop .inv .related .stored)
-
-same-length-18 : tie.Need-same-length-18 Inv-loop μ-loop
-same-length-18 c = c .before .before .before .before .before .before .before .before .before .before .before .before .before .loop .inv .barsLength
-
-same-length-19 : tie.Need-same-length-19 Inv-loop μ-loop
-same-length-19 c = c .before .before .before .before .before .before .before .before .before .before .before .before .before .loop .inv .figureLength
-
-same-length-20 : tie.Need-same-length-20 Inv-loop μ-loop
-same-length-20 c = c .before .before .before .before .before .before .before .before .before .before .before .before .before .loop .inv .scratchLength
-
-returns-5 : tie.Need-returns-5 Inv-loop μ-loop
-returns-5 c = stop-here (c .before .before .before .before .before .before .before .before) (c .before .before .before .before .before .before .token7 .given .1 ∙ ap (λ (w : Figure). t.Figure w) (c .before .before .before .enum-told9 .given .1)) (joining (c .before .before .before .before .before .before .before .before)) refl (c .before .before .room-for2 .result) (c .stopped5 .ensures) (c .before .before .room-for2 .ensures) (c .before .if5 .taken)
-
-unless-requires-2 : tie.Need-unless-requires-2 Inv-loop μ-loop
-unless-requires-2 c κs = fits-here (c .before .before .before .before .before .before .before .before)
-
-store-found-requires-7 : tie.Need-store-found-requires-7 Inv-loop μ-loop
-store-found-requires-7 c κs = tt
-
-figure-repeat-requires : tie.Need-figure-repeat-requires Inv-loop μ-loop
-figure-repeat-requires c κs = let r = ready-here (c .before .before .before .before .before .before .before .before .before .before .before .before .before .before) (c .before .before .before .before .before .before .before .before .before .before .before .before .token7 .given .1 ∙ ap (λ (w : Figure). t.Figure w) (c .before .before .before .before .before .before .before .before .before .enum-told9 .given .1)) (joining (c .before .before .before .before .before .before .before .before .before .before .before .before .before .before)) refl (sym (c .before .before .before .before .before .before .before .before .room-for2 .ensures) ∙ c .before .before .before .before .before .before .before .if5 .left) .asked in (fits-here (c .before .before .before .before .before .before .before .before .before .before .before .before .before .before) .0, r .0, r .1)
-
-counted-requires-2 : tie.Need-counted-requires-2 Inv-loop μ-loop
-counted-requires-2 c κs = (omega (arith, c .before .before .before .before .before .before .before .before .before .before .before .before .before .before .before .before .before .before .before .before .before .loop .inv .related .stored .capped), omega (arith, c .before .before .before .before .before .before .before .before .before .before .before .before .before .before .before .before .before .before .before .before .before .loop .inv .small))
-
-loop-less-15 : tie.Need-loop-less-15 Inv-loop μ-loop
-loop-less-15 c = omega (arith, further-here (c .before .before .before .before .before .before .before .before .before .before .before .before .before .before .before .before .before), within-here (c .before .before .before .before .before .before .before .before .before .before .before .before .before .before .before .before .before))
-
-loop-again-15 : tie.Need-loop-again-15 Inv-loop μ-loop
-unfolding remarked stepped takenNext notesNext barsNext heldNext
-loop-again-15 c =
-    let s = c .before .before .before .before .before .before .before .before .before .before .before .before .before .before .before .before .before .before .before .before .before .before .loop .st in
-    let r = c .before .before .before .before .before .before .store-found7 in
-    go-on (c .before .before .before .before .before .before .before .before .before .before .before .before .before .before .before .before .before) (c .before .before .before .before .before .before .before .before .before .before .before .before .before .before .before .token7 .given .1 ∙ ap (λ (w : Figure). t.Figure w) (c .before .before .before .before .before .before .before .before .before .before .before .before .enum-told9 .given .1)) (joining (c .before .before .before .before .before .before .before .before .before .before .before .before .before .before .before .before .before)) refl (sym (c .before .before .before .before .before .before .before .before .before .before .before .room-for2 .ensures) ∙ c .before .before .before .before .before .before .before .before .before .before .if5 .left) (found-here (c .before .before .before .before .before .before .before .before .before .before .before .before .before .before .before .before .before) (λ y. unless (not (eqb (s .figure) 0)) (whole 18 y)) (c .before .before .before .before .before .before .before .before .unless2 .ensures)) (r .ensures .0) (r .ensures .1) refl
-    (λ i. withDiagnostics (r .result) (withCounts (c .counted2 .ensures i) s)) refl refl
-    (c .before .before .figure-repeat .ensures ∙ (λ i. figureCopied (s .figure) (s .counts) (place-is (c .before .before .before .before .before .before .before .before .before .before .before .before .before .before .before .before .before) i) (c .before .before .before .before .before .before .before .before .before .before .before .before .before .before .before .before .before .before .before .before .before .before .loop .notes) (c .before .before .before .before .before .before .before .before .before .before .before .before .before .before .before .before .before .before .before .before .before .before .loop .figure))) refl refl refl refl (r .kept .0)
 
 enum-told-10 : tie.Need-enum-told-10 Inv-loop μ-loop
 enum-told-10 c = search needs
 
+room-for-requires-3 : tie.Need-room-for-requires-3 Inv-loop μ-loop
+room-for-requires-3 c κs = (c .before .before .before .before .before .before .before .before .before .before .loop .inv .related .stored .capped, c .before .before .before .before .before .before .before .before .before .before .loop .inv .small)
+
+stopped-requires-7 : tie.Need-stopped-requires-7 Inv-loop μ-loop
+stopped-requires-7 c κs = tt
+
+same-length-25 : tie.Need-same-length-25 Inv-loop μ-loop
+same-length-25 c = length-notes (c .before .before .before .before .before .before .before .before .before .before .before .before .before .loop .inv .related .stored)
+
+same-length-26 : tie.Need-same-length-26 Inv-loop μ-loop
+same-length-26 c = c .before .before .before .before .before .before .before .before .before .before .before .before .before .loop .inv .barsLength
+
+same-length-27 : tie.Need-same-length-27 Inv-loop μ-loop
+same-length-27 c = c .before .before .before .before .before .before .before .before .before .before .before .before .before .loop .inv .figureLength
+
+same-length-28 : tie.Need-same-length-28 Inv-loop μ-loop
+same-length-28 c = c .before .before .before .before .before .before .before .before .before .before .before .before .before .loop .inv .scratchLength
+
+returns-7 : tie.Need-returns-7 Inv-loop μ-loop
+returns-7 c = stop-here (c .before .before .before .before .before .before .before .before) (c .before .before .before .before .before .before .token8 .given .1 ∙ ap (λ (w : Figure). t.Figure w) (c .before .before .before .enum-told10 .given .1)) (joining (c .before .before .before .before .before .before .before .before)) refl (c .before .before .room-for3 .result) (c .stopped7 .ensures) (c .before .before .room-for3 .ensures) (c .before .if8 .taken)
+
+unless-requires-2 : tie.Need-unless-requires-2 Inv-loop μ-loop
+unless-requires-2 c κs = fits-here (c .before .before .before .before .before .before .before .before)
+
+store-found-requires-8 : tie.Need-store-found-requires-8 Inv-loop μ-loop
+store-found-requires-8 c κs = tt
+
+figure-repeat-requires : tie.Need-figure-repeat-requires Inv-loop μ-loop
+figure-repeat-requires c κs = let r = ready-here (c .before .before .before .before .before .before .before .before .before .before .before .before .before .before) (c .before .before .before .before .before .before .before .before .before .before .before .before .token8 .given .1 ∙ ap (λ (w : Figure). t.Figure w) (c .before .before .before .before .before .before .before .before .before .enum-told10 .given .1)) (joining (c .before .before .before .before .before .before .before .before .before .before .before .before .before .before)) refl (sym (c .before .before .before .before .before .before .before .before .room-for3 .ensures) ∙ c .before .before .before .before .before .before .before .if8 .left) .asked in (fits-here (c .before .before .before .before .before .before .before .before .before .before .before .before .before .before) .0, r .0, r .1)
+
+counted-requires-3 : tie.Need-counted-requires-3 Inv-loop μ-loop
+counted-requires-3 c κs = (omega (arith, c .before .before .before .before .before .before .before .before .before .before .before .before .before .before .before .before .before .before .before .before .before .loop .inv .related .stored .capped), omega (arith, c .before .before .before .before .before .before .before .before .before .before .before .before .before .before .before .before .before .before .before .before .before .loop .inv .small))
+
+loop-less-18 : tie.Need-loop-less-18 Inv-loop μ-loop
+loop-less-18 c = omega (arith, further-here (c .before .before .before .before .before .before .before .before .before .before .before .before .before .before .before .before .before), within-here (c .before .before .before .before .before .before .before .before .before .before .before .before .before .before .before .before .before))
+
+loop-again-18 : tie.Need-loop-again-18 Inv-loop μ-loop
+unfolding remarked stepped takenNext notesNext barsNext heldNext
+loop-again-18 c =
+    let s = c .before .before .before .before .before .before .before .before .before .before .before .before .before .before .before .before .before .before .before .before .before .before .loop .st in
+    let r = c .before .before .before .before .before .before .store-found8 in
+    go-on (c .before .before .before .before .before .before .before .before .before .before .before .before .before .before .before .before .before) (c .before .before .before .before .before .before .before .before .before .before .before .before .before .before .before .token8 .given .1 ∙ ap (λ (w : Figure). t.Figure w) (c .before .before .before .before .before .before .before .before .before .before .before .before .enum-told10 .given .1)) refl (joining (c .before .before .before .before .before .before .before .before .before .before .before .before .before .before .before .before .before)) refl (sym (c .before .before .before .before .before .before .before .before .before .before .before .room-for3 .ensures) ∙ c .before .before .before .before .before .before .before .before .before .before .if8 .left) (found-here (c .before .before .before .before .before .before .before .before .before .before .before .before .before .before .before .before .before) (λ y. unless (not (eqb (s .figure) 0)) (whole 18 y)) (c .before .before .before .before .before .before .before .before .unless2 .ensures)) (r .ensures .0) (r .ensures .1) refl
+    (λ i. withDiagnostics (r .result) (withCounts (c .counted3 .ensures i) s)) refl refl
+    (c .before .before .figure-repeat .ensures ∙ (λ i. figureCopied (s .figure) (s .counts) (place-is (c .before .before .before .before .before .before .before .before .before .before .before .before .before .before .before .before .before) i) (c .before .before .before .before .before .before .before .before .before .before .before .before .before .before .before .before .before .before .before .before .before .before .loop .notes) (c .before .before .before .before .before .before .before .before .before .before .before .before .before .before .before .before .before .before .before .before .before .before .loop .figure))) refl refl refl refl (r .kept .0)
+
+enum-told-11 : tie.Need-enum-told-11 Inv-loop μ-loop
+enum-told-11 c = search needs
+
 repeated-count-requires : tie.Need-repeated-count-requires Inv-loop μ-loop
 repeated-count-requires c κs = last-below (c .before .before .before .before .before .before .before .before .before .before .loop .inv .related .stored)
 
-room-for-requires-3 : tie.Need-room-for-requires-3 Inv-loop μ-loop
-room-for-requires-3 c κs = (c .before .before .before .before .before .before .before .before .before .before .before .loop .inv .related .stored .capped, omega (arith, c .repeated-count .ensures, repeated-small (c .before .before .before .before .before .before .before .before .before .before .before .loop .st .counts) (first-below (c .before .before .before .before .before .before .before .before .before .before .before .loop .inv .related .stored)), c .before .before .before .before .before .before .before .before .before .before .before .loop .inv .related .stored .capped))
+room-for-requires-4 : tie.Need-room-for-requires-4 Inv-loop μ-loop
+room-for-requires-4 c κs = (c .before .before .before .before .before .before .before .before .before .before .before .loop .inv .related .stored .capped, omega (arith, c .repeated-count .ensures, repeated-small (c .before .before .before .before .before .before .before .before .before .before .before .loop .st .counts) (first-below (c .before .before .before .before .before .before .before .before .before .before .before .loop .inv .related .stored)), c .before .before .before .before .before .before .before .before .before .before .before .loop .inv .related .stored .capped))
 
-stopped-requires-6 : tie.Need-stopped-requires-6 Inv-loop μ-loop
-stopped-requires-6 c κs = tt
+stopped-requires-8 : tie.Need-stopped-requires-8 Inv-loop μ-loop
+stopped-requires-8 c κs = tt
 
-same-length-21 : tie.Need-same-length-21 Inv-loop μ-loop
-same-length-21 c = length-notes (c .before .before .before .before .before .before .before .before .before .before .before .before .before .before .loop .inv .related .stored)
+same-length-29 : tie.Need-same-length-29 Inv-loop μ-loop
+same-length-29 c = length-notes (c .before .before .before .before .before .before .before .before .before .before .before .before .before .before .loop .inv .related .stored)
 
-same-length-22 : tie.Need-same-length-22 Inv-loop μ-loop
-same-length-22 c = c .before .before .before .before .before .before .before .before .before .before .before .before .before .before .loop .inv .barsLength
+same-length-30 : tie.Need-same-length-30 Inv-loop μ-loop
+same-length-30 c = c .before .before .before .before .before .before .before .before .before .before .before .before .before .before .loop .inv .barsLength
 
-same-length-23 : tie.Need-same-length-23 Inv-loop μ-loop
-same-length-23 c = c .before .before .before .before .before .before .before .before .before .before .before .before .before .before .loop .inv .figureLength
+same-length-31 : tie.Need-same-length-31 Inv-loop μ-loop
+same-length-31 c = c .before .before .before .before .before .before .before .before .before .before .before .before .before .before .loop .inv .figureLength
 
-same-length-24 : tie.Need-same-length-24 Inv-loop μ-loop
-same-length-24 c = c .before .before .before .before .before .before .before .before .before .before .before .before .before .before .loop .inv .scratchLength
+same-length-32 : tie.Need-same-length-32 Inv-loop μ-loop
+same-length-32 c = c .before .before .before .before .before .before .before .before .before .before .before .before .before .before .loop .inv .scratchLength
 
-returns-6 : tie.Need-returns-6 Inv-loop μ-loop
-returns-6 c = stop-here (c .before .before .before .before .before .before .before .before .before) (c .before .before .before .before .before .before .before .token7 .given .1 ∙ ap (λ (w : Figure). t.Figure w) (c .before .before .before .before .enum-told10 .given .1)) (joining (c .before .before .before .before .before .before .before .before .before)) refl (c .before .before .room-for3 .result) (c .stopped6 .ensures) (c .before .before .room-for3 .ensures ∙ ap (λ (n : ℕ). storing (c .before .before .before .before .before .before .before .before .before .before .before .before .before .before .loop .st .counts .notes) n (c .before .before .before .before .before .before .before .before .before .before .before .before .before .before .before .before .before .before .before .before .before .args .room .notes)) (c .before .before .before .repeated-count .ensures)) (c .before .if6 .taken)
+returns-8 : tie.Need-returns-8 Inv-loop μ-loop
+returns-8 c = stop-here (c .before .before .before .before .before .before .before .before .before) (c .before .before .before .before .before .before .before .token8 .given .1 ∙ ap (λ (w : Figure). t.Figure w) (c .before .before .before .before .enum-told11 .given .1)) (joining (c .before .before .before .before .before .before .before .before .before)) refl (c .before .before .room-for4 .result) (c .stopped8 .ensures) (c .before .before .room-for4 .ensures ∙ ap (λ (n : ℕ). storing (c .before .before .before .before .before .before .before .before .before .before .before .before .before .before .loop .st .counts .notes) n (c .before .before .before .before .before .before .before .before .before .before .before .before .before .before .before .before .before .before .before .before .before .args .room .notes)) (c .before .before .before .repeated-count .ensures)) (c .before .if9 .taken)
 
 has-content-requires-5 : tie.Need-has-content-requires-5 Inv-loop μ-loop
 has-content-requires-5 c κs = tt
@@ -826,34 +957,34 @@ has-content-requires-5 c κs = tt
 unless-requires-3 : tie.Need-unless-requires-3 Inv-loop μ-loop
 unless-requires-3 c κs = fits-here (c .before .before .before .before .before .before .before .before .before .before)
 
-store-found-requires-8 : tie.Need-store-found-requires-8 Inv-loop μ-loop
-store-found-requires-8 c κs = tt
+store-found-requires-9 : tie.Need-store-found-requires-9 Inv-loop μ-loop
+store-found-requires-9 c κs = tt
 
 bar-repeat-requires : tie.Need-bar-repeat-requires Inv-loop μ-loop
-bar-repeat-requires c κs = (c .before .before .before .before .before .before .before .before .before .repeated-count .ensures, fits-here (c .before .before .before .before .before .before .before .before .before .before .before .before .before .before .before) .0, subst (λ (n : ℕ). PlaceReady n (c .before .before .before .before .before .before .before .before .before .before .before .before .before .before .before .before .before .before .before .before .loop .st .counts) (c .before .before .before .before .before .before .before .before .before .before .before .before .before .before .before .before .before .before .before .before .loop .notes)) (sym (c .before .before .before .before .before .before .before .before .before .repeated-count .ensures)) (ready-here (c .before .before .before .before .before .before .before .before .before .before .before .before .before .before .before) (c .before .before .before .before .before .before .before .before .before .before .before .before .before .token7 .given .1 ∙ ap (λ (w : Figure). t.Figure w) (c .before .before .before .before .before .before .before .before .before .before .enum-told10 .given .1)) (joining (c .before .before .before .before .before .before .before .before .before .before .before .before .before .before .before)) refl (sym (ap (λ (n : ℕ). storing (c .before .before .before .before .before .before .before .before .before .before .before .before .before .before .before .before .before .before .before .before .loop .st .counts .notes) n (c .before .before .before .before .before .before .before .before .before .before .before .before .before .before .before .before .before .before .before .before .before .before .before .before .before .before .before .args .room .notes)) (c .before .before .before .before .before .before .before .before .before .repeated-count .ensures)) ∙ sym (c .before .before .before .before .before .before .before .before .room-for3 .ensures) ∙ c .before .before .before .before .before .before .before .if6 .left) .asked))
+bar-repeat-requires c κs = (c .before .before .before .before .before .before .before .before .before .repeated-count .ensures, fits-here (c .before .before .before .before .before .before .before .before .before .before .before .before .before .before .before) .0, subst (λ (n : ℕ). PlaceReady n (c .before .before .before .before .before .before .before .before .before .before .before .before .before .before .before .before .before .before .before .before .loop .st .counts) (c .before .before .before .before .before .before .before .before .before .before .before .before .before .before .before .before .before .before .before .before .loop .notes)) (sym (c .before .before .before .before .before .before .before .before .before .repeated-count .ensures)) (ready-here (c .before .before .before .before .before .before .before .before .before .before .before .before .before .before .before) (c .before .before .before .before .before .before .before .before .before .before .before .before .before .token8 .given .1 ∙ ap (λ (w : Figure). t.Figure w) (c .before .before .before .before .before .before .before .before .before .before .enum-told11 .given .1)) (joining (c .before .before .before .before .before .before .before .before .before .before .before .before .before .before .before)) refl (sym (ap (λ (n : ℕ). storing (c .before .before .before .before .before .before .before .before .before .before .before .before .before .before .before .before .before .before .before .before .loop .st .counts .notes) n (c .before .before .before .before .before .before .before .before .before .before .before .before .before .before .before .before .before .before .before .before .before .before .before .before .before .before .before .args .room .notes)) (c .before .before .before .before .before .before .before .before .before .repeated-count .ensures)) ∙ sym (c .before .before .before .before .before .before .before .before .room-for4 .ensures) ∙ c .before .before .before .before .before .before .before .if9 .left) .asked))
 
-counted-requires-3 : tie.Need-counted-requires-3 Inv-loop μ-loop
-counted-requires-3 c κs = (omega (arith, c .before .before .before .before .before .before .before .before .before .before .before .before .before .before .before .before .before .before .before .before .before .before .loop .inv .related .stored .capped), omega (arith, c .before .before .before .before .before .before .before .before .before .before .before .repeated-count .ensures, repeated-small (c .before .before .before .before .before .before .before .before .before .before .before .before .before .before .before .before .before .before .before .before .before .before .loop .st .counts) (first-below (c .before .before .before .before .before .before .before .before .before .before .before .before .before .before .before .before .before .before .before .before .before .before .loop .inv .related .stored)), c .before .before .before .before .before .before .before .before .before .before .before .before .before .before .before .before .before .before .before .before .before .before .loop .inv .related .stored .capped))
+counted-requires-4 : tie.Need-counted-requires-4 Inv-loop μ-loop
+counted-requires-4 c κs = (omega (arith, c .before .before .before .before .before .before .before .before .before .before .before .before .before .before .before .before .before .before .before .before .before .before .loop .inv .related .stored .capped), omega (arith, c .before .before .before .before .before .before .before .before .before .before .before .repeated-count .ensures, repeated-small (c .before .before .before .before .before .before .before .before .before .before .before .before .before .before .before .before .before .before .before .before .before .before .loop .st .counts) (first-below (c .before .before .before .before .before .before .before .before .before .before .before .before .before .before .before .before .before .before .before .before .before .before .loop .inv .related .stored)), c .before .before .before .before .before .before .before .before .before .before .before .before .before .before .before .before .before .before .before .before .before .before .loop .inv .related .stored .capped))
 
-loop-less-16 : tie.Need-loop-less-16 Inv-loop μ-loop
-loop-less-16 c = omega (arith, further-here (c .before .before .before .before .before .before .before .before .before .before .before .before .before .before .before .before .before .before), within-here (c .before .before .before .before .before .before .before .before .before .before .before .before .before .before .before .before .before .before))
+loop-less-19 : tie.Need-loop-less-19 Inv-loop μ-loop
+loop-less-19 c = omega (arith, further-here (c .before .before .before .before .before .before .before .before .before .before .before .before .before .before .before .before .before .before), within-here (c .before .before .before .before .before .before .before .before .before .before .before .before .before .before .before .before .before .before))
 
-loop-again-16 : tie.Need-loop-again-16 Inv-loop μ-loop
+loop-again-19 : tie.Need-loop-again-19 Inv-loop μ-loop
 unfolding remarked stepped takenNext notesNext barsNext heldNext
-loop-again-16 c =
+loop-again-19 c =
     let s = c .before .before .before .before .before .before .before .before .before .before .before .before .before .before .before .before .before .before .before .before .before .before .before .loop .st in
     let h = c .before .before .before .before .before .before .before .before .before .has-content5 .ensures in
-    let r = c .before .before .before .before .before .store-found8 in
+    let r = c .before .before .before .before .before .store-found9 in
     let words = c .before .before .before .before .before .before .before .unless3 .ensures ∙ (λ i. map diagnosticWords (unless (not (h i) && not (eqb (s .counts .bars) 0)) (whole 19 (itemIn (c .before .before .before .before .before .before .before .before .before .before .before .before .before .before .before .before .before .before .span-of .ensures i))))) in
-    go-on (c .before .before .before .before .before .before .before .before .before .before .before .before .before .before .before .before .before .before) (c .before .before .before .before .before .before .before .before .before .before .before .before .before .before .before .before .token7 .given .1 ∙ ap (λ (w : Figure). t.Figure w) (c .before .before .before .before .before .before .before .before .before .before .before .before .before .enum-told10 .given .1)) (joining (c .before .before .before .before .before .before .before .before .before .before .before .before .before .before .before .before .before .before)) refl (sym (ap (λ (n : ℕ). storing (c .before .before .before .before .before .before .before .before .before .before .before .before .before .before .before .before .before .before .before .before .before .before .before .loop .st .counts .notes) n (c .before .before .before .before .before .before .before .before .before .before .before .before .before .before .before .before .before .before .before .before .before .before .before .before .before .before .before .before .before .before .args .room .notes)) (c .before .before .before .before .before .before .before .before .before .before .before .before .repeated-count .ensures)) ∙ sym (c .before .before .before .before .before .before .before .before .before .before .before .room-for3 .ensures) ∙ c .before .before .before .before .before .before .before .before .before .before .if6 .left) words (r .ensures .0) (r .ensures .1) refl
-    (λ i. withDiagnostics (r .result) (withCounts ((c .counted3 .ensures ∙ ap (λ (n : ℕ). counted n (s .counts)) (c .before .before .before .before .before .before .before .before .before .before .before .before .repeated-count .ensures)) i) s)) refl refl
+    go-on (c .before .before .before .before .before .before .before .before .before .before .before .before .before .before .before .before .before .before) (c .before .before .before .before .before .before .before .before .before .before .before .before .before .before .before .before .token8 .given .1 ∙ ap (λ (w : Figure). t.Figure w) (c .before .before .before .before .before .before .before .before .before .before .before .before .before .enum-told11 .given .1)) refl (joining (c .before .before .before .before .before .before .before .before .before .before .before .before .before .before .before .before .before .before)) refl (sym (ap (λ (n : ℕ). storing (c .before .before .before .before .before .before .before .before .before .before .before .before .before .before .before .before .before .before .before .before .before .before .before .loop .st .counts .notes) n (c .before .before .before .before .before .before .before .before .before .before .before .before .before .before .before .before .before .before .before .before .before .before .before .before .before .before .before .before .before .before .args .room .notes)) (c .before .before .before .before .before .before .before .before .before .before .before .before .repeated-count .ensures)) ∙ sym (c .before .before .before .before .before .before .before .before .before .before .before .room-for4 .ensures) ∙ c .before .before .before .before .before .before .before .before .before .before .if9 .left) words (r .ensures .0) (r .ensures .1) refl
+    (λ i. withDiagnostics (r .result) (withCounts ((c .counted4 .ensures ∙ ap (λ (n : ℕ). counted n (s .counts)) (c .before .before .before .before .before .before .before .before .before .before .before .before .repeated-count .ensures)) i) s)) refl refl
     (c .before .before .bar-repeat .ensures ∙ (λ i. barCopied (s .counts) (place-is (c .before .before .before .before .before .before .before .before .before .before .before .before .before .before .before .before .before .before) i) (c .before .before .before .before .before .before .before .before .before .before .before .before .before .before .before .before .before .before .before .before .before .before .before .loop .notes))) refl refl refl refl (r .kept .0)
 
-enum-known-token-8 : tie.Need-enum-known-token-8 Inv-loop μ-loop
-enum-known-token-8 c = search needs
+enum-known-token-9 : tie.Need-enum-known-token-9 Inv-loop μ-loop
+enum-known-token-9 c = search needs
 
-enum-told-11 : tie.Need-enum-told-11 Inv-loop μ-loop
-enum-told-11 c = search needs
+enum-told-12 : tie.Need-enum-told-12 Inv-loop μ-loop
+enum-told-12 c = search needs
 
 open-length-requires-2 : tie.Need-open-length-requires-2 Inv-loop μ-loop
 open-length-requires-2 c κs = first-below (c .before .before .before .before .before .before .before .before .before .before .loop .inv .related .stored)
@@ -861,31 +992,31 @@ open-length-requires-2 c κs = first-below (c .before .before .before .before .b
 beam-opened-requires : tie.Need-beam-opened-requires Inv-loop μ-loop
 beam-opened-requires c κs = tt
 
-loop-less-17 : tie.Need-loop-less-17 Inv-loop μ-loop
-loop-less-17 c = omega (arith, further-here (c .before .before .before .before .before .before .before), within-here (c .before .before .before .before .before .before .before))
+loop-less-20 : tie.Need-loop-less-20 Inv-loop μ-loop
+loop-less-20 c = omega (arith, further-here (c .before .before .before .before .before .before .before), within-here (c .before .before .before .before .before .before .before))
 
-loop-again-17 : tie.Need-loop-again-17 Inv-loop μ-loop
+loop-again-20 : tie.Need-loop-again-20 Inv-loop μ-loop
 unfolding remarked stepped takenNext notesNext barsNext heldNext
-loop-again-17 c = quiet (c .before .before .before .before .before .before .before) (c .before .before .before .before .before .token8 .given .1 ∙ ap (λ (w : Marking). t.Marking w) (c .before .before .enum-told11 .given .1)) refl refl (λ i. withGroups ((c .beam-opened .ensures ∙ ap (λ (n : ℕ). beamSet (startAt n) (c .before .before .before .before .before .before .before .before .before .before .before .before .loop .st .groups)) (c .before .open-length2 .ensures)) i) (c .before .before .before .before .before .before .before .before .before .before .before .before .loop .st)) refl refl refl refl refl refl
+loop-again-20 c = quiet (c .before .before .before .before .before .before .before) (c .before .before .before .before .before .token9 .given .1 ∙ ap (λ (w : Marking). t.Marking w) (c .before .before .enum-told12 .given .1)) refl refl refl (λ i. withGroups ((c .beam-opened .ensures ∙ ap (λ (n : ℕ). beamSet (startAt n) (c .before .before .before .before .before .before .before .before .before .before .before .before .loop .st .groups)) (c .before .open-length2 .ensures)) i) (c .before .before .before .before .before .before .before .before .before .before .before .before .loop .st)) refl refl refl refl refl refl
 
-enum-told-12 : tie.Need-enum-told-12 Inv-loop μ-loop
-enum-told-12 c = search needs
+enum-told-13 : tie.Need-enum-told-13 Inv-loop μ-loop
+enum-told-13 c = search needs
 
 close-beam-requires : tie.Need-close-beam-requires Inv-loop μ-loop
-close-beam-requires c κs = ready-here (c .before .before .before .before .before .before) (c .before .before .before .before .token8 .given .1 ∙ ap (λ (w : Marking). t.Marking w) (c .before .enum-told12 .given .1)) (joining (c .before .before .before .before .before .before)) refl refl .within
+close-beam-requires c κs = ready-here (c .before .before .before .before .before .before) (c .before .before .before .before .token9 .given .1 ∙ ap (λ (w : Marking). t.Marking w) (c .before .enum-told13 .given .1)) (joining (c .before .before .before .before .before .before)) refl refl .within
 
 beam-closed-requires : tie.Need-beam-closed-requires Inv-loop μ-loop
 beam-closed-requires c κs = tt
 
-loop-less-18 : tie.Need-loop-less-18 Inv-loop μ-loop
-loop-less-18 c = omega (arith, further-here (c .before .before .before .before .before .before .before .before .before), within-here (c .before .before .before .before .before .before .before .before .before))
+loop-less-21 : tie.Need-loop-less-21 Inv-loop μ-loop
+loop-less-21 c = omega (arith, further-here (c .before .before .before .before .before .before .before .before .before), within-here (c .before .before .before .before .before .before .before .before .before))
 
-loop-again-18 : tie.Need-loop-again-18 Inv-loop μ-loop
+loop-again-21 : tie.Need-loop-again-21 Inv-loop μ-loop
 unfolding remarked stepped takenNext notesNext barsNext heldNext
-loop-again-18 c = silent (c .before .before .before .before .before .before .before .before .before) (c .before .before .before .before .before .before .before .token8 .given .1 ∙ ap (λ (w : Marking). t.Marking w) (c .before .before .before .before .enum-told12 .given .1)) (joining (c .before .before .before .before .before .before .before .before .before)) refl refl refl refl (λ i. withGroups (c .beam-closed .ensures i) (c .before .before .before .before .before .before .before .before .before .before .before .before .before .before .loop .st)) refl refl (c .before .before .close-beam .ensures) refl refl refl
+loop-again-21 c = silent (c .before .before .before .before .before .before .before .before .before) (c .before .before .before .before .before .before .before .token9 .given .1 ∙ ap (λ (w : Marking). t.Marking w) (c .before .before .before .before .enum-told13 .given .1)) refl (joining (c .before .before .before .before .before .before .before .before .before)) refl refl refl refl (λ i. withGroups (c .beam-closed .ensures i) (c .before .before .before .before .before .before .before .before .before .before .before .before .before .before .loop .st)) refl refl (c .before .before .close-beam .ensures) refl refl refl
 
-enum-told-13 : tie.Need-enum-told-13 Inv-loop μ-loop
-enum-told-13 c = search needs
+enum-told-14 : tie.Need-enum-told-14 Inv-loop μ-loop
+enum-told-14 c = search needs
 
 open-length-requires-3 : tie.Need-open-length-requires-3 Inv-loop μ-loop
 open-length-requires-3 c κs = first-below (c .before .before .before .before .before .before .before .before .before .before .loop .inv .related .stored)
@@ -893,15 +1024,15 @@ open-length-requires-3 c κs = first-below (c .before .before .before .before .b
 paren-opened-requires : tie.Need-paren-opened-requires Inv-loop μ-loop
 paren-opened-requires c κs = tt
 
-loop-less-19 : tie.Need-loop-less-19 Inv-loop μ-loop
-loop-less-19 c = omega (arith, further-here (c .before .before .before .before .before .before .before), within-here (c .before .before .before .before .before .before .before))
+loop-less-22 : tie.Need-loop-less-22 Inv-loop μ-loop
+loop-less-22 c = omega (arith, further-here (c .before .before .before .before .before .before .before), within-here (c .before .before .before .before .before .before .before))
 
-loop-again-19 : tie.Need-loop-again-19 Inv-loop μ-loop
+loop-again-22 : tie.Need-loop-again-22 Inv-loop μ-loop
 unfolding remarked stepped takenNext notesNext barsNext heldNext
-loop-again-19 c = quiet (c .before .before .before .before .before .before .before) (c .before .before .before .before .before .token8 .given .1 ∙ ap (λ (w : Marking). t.Marking w) (c .before .before .enum-told13 .given .1)) refl refl (λ i. withGroups ((c .paren-opened .ensures ∙ ap (λ (n : ℕ). parenSet (startAt n) (c .before .before .before .before .before .before .before .before .before .before .before .before .loop .st .groups)) (c .before .open-length3 .ensures)) i) (c .before .before .before .before .before .before .before .before .before .before .before .before .loop .st)) refl refl refl refl refl refl
+loop-again-22 c = quiet (c .before .before .before .before .before .before .before) (c .before .before .before .before .before .token9 .given .1 ∙ ap (λ (w : Marking). t.Marking w) (c .before .before .enum-told14 .given .1)) refl refl refl (λ i. withGroups ((c .paren-opened .ensures ∙ ap (λ (n : ℕ). parenSet (startAt n) (c .before .before .before .before .before .before .before .before .before .before .before .before .loop .st .groups)) (c .before .open-length3 .ensures)) i) (c .before .before .before .before .before .before .before .before .before .before .before .before .loop .st)) refl refl refl refl refl refl
 
-enum-told-14 : tie.Need-enum-told-14 Inv-loop μ-loop
-enum-told-14 c = search needs
+enum-told-15 : tie.Need-enum-told-15 Inv-loop μ-loop
+enum-told-15 c = search needs
 
 add-from-4 : tie.Need-add-from-4 Inv-loop μ-loop
 add-from-4 c = record { fits = omega (arith, further-here (c .before .before .before .before .before), within-here (c .before .before .before .before .before), c .before .before .before .before .before .before .before .before .before .before .before .before .before .before .before .before .before .pre .short) }
@@ -921,27 +1052,27 @@ count-requires c κs = tt
 count-found-requires : tie.Need-count-found-requires Inv-loop μ-loop
 count-found-requires c κs = fits-here (c .before .before .before .before .before .before .before)
 
-store-found-requires-9 : tie.Need-store-found-requires-9 Inv-loop μ-loop
-store-found-requires-9 c κs = tt
+store-found-requires-10 : tie.Need-store-found-requires-10 Inv-loop μ-loop
+store-found-requires-10 c κs = tt
 
 paren-counted-requires : tie.Need-paren-counted-requires Inv-loop μ-loop
 paren-counted-requires c κs = tt
 
-loop-less-20 : tie.Need-loop-less-20 Inv-loop μ-loop
-loop-less-20 c = omega (arith, further-here (c .before .before .before .before .before .before .before .before .before .before .before .before), within-here (c .before .before .before .before .before .before .before .before .before .before .before .before))
+loop-less-23 : tie.Need-loop-less-23 Inv-loop μ-loop
+loop-less-23 c = omega (arith, further-here (c .before .before .before .before .before .before .before .before .before .before .before .before), within-here (c .before .before .before .before .before .before .before .before .before .before .before .before))
 
-loop-again-20 : tie.Need-loop-again-20 Inv-loop μ-loop
+loop-again-23 : tie.Need-loop-again-23 Inv-loop μ-loop
 unfolding remarked stepped takenNext notesNext barsNext heldNext
-loop-again-20 c =
+loop-again-23 c =
     let s = c .before .before .before .before .before .before .before .before .before .before .before .before .before .before .before .before .before .loop .st in
     let v = c .before .before .before .before .before .count .ensures in
-    let r = c .before .before .store-found9 in
+    let r = c .before .before .store-found10 in
     let words = c .before .before .before .before .count-found .ensures ∙ (λ i. map diagnosticWords (countFound (s .groups .paren .noted) (v i) (itemIn (c .before .before .before .before .before .before .before .before .before .before .before .before .span-of .ensures i)))) in
-    go-on (c .before .before .before .before .before .before .before .before .before .before .before .before) (c .before .before .before .before .before .before .before .before .before .before .token8 .given .1 ∙ ap (λ (w : Marking). t.Marking w) (c .before .before .before .before .before .before .before .enum-told14 .given .1)) (joining (c .before .before .before .before .before .before .before .before .before .before .before .before)) refl refl words (r .ensures .0) (r .ensures .1) refl
+    go-on (c .before .before .before .before .before .before .before .before .before .before .before .before) (c .before .before .before .before .before .before .before .before .before .before .token9 .given .1 ∙ ap (λ (w : Marking). t.Marking w) (c .before .before .before .before .before .before .before .enum-told15 .given .1)) refl (joining (c .before .before .before .before .before .before .before .before .before .before .before .before)) refl refl words (r .ensures .0) (r .ensures .1) refl
     (λ i. withDiagnostics (r .result) (withGroups ((c .paren-counted .ensures ∙ ap (λ (k : Option ℕ). countSet k (s .groups)) v) i) s)) refl refl refl refl refl refl refl (r .kept .0)
 
-enum-told-15 : tie.Need-enum-told-15 Inv-loop μ-loop
-enum-told-15 c = search needs
+enum-told-16 : tie.Need-enum-told-16 Inv-loop μ-loop
+enum-told-16 c = search needs
 
 group-timed-requires : tie.Need-group-timed-requires Inv-loop μ-loop
 group-timed-requires c κs = (held-here (c .before .before .before .before .before .before), first-below (c .before .before .before .before .before .before .before .before .before .before .before .loop .inv .related .stored))
@@ -949,23 +1080,23 @@ group-timed-requires c κs = (held-here (c .before .before .before .before .befo
 check-group-requires : tie.Need-check-group-requires Inv-loop μ-loop
 check-group-requires c κs = (c .before .group-timed .ensures, held-here (c .before .before .before .before .before .before .before .before), first-below (c .before .before .before .before .before .before .before .before .before .before .before .before .before .loop .inv .related .stored))
 
-stopped-requires-7 : tie.Need-stopped-requires-7 Inv-loop μ-loop
-stopped-requires-7 c κs = tt
+stopped-requires-9 : tie.Need-stopped-requires-9 Inv-loop μ-loop
+stopped-requires-9 c κs = tt
 
-same-length-25 : tie.Need-same-length-25 Inv-loop μ-loop
-same-length-25 c = length-notes (c .before .before .before .before .before .before .before .before .before .before .before .before .before .before .before .before .loop .inv .related .stored)
+same-length-33 : tie.Need-same-length-33 Inv-loop μ-loop
+same-length-33 c = length-notes (c .before .before .before .before .before .before .before .before .before .before .before .before .before .before .before .before .loop .inv .related .stored)
 
-same-length-26 : tie.Need-same-length-26 Inv-loop μ-loop
-same-length-26 c = c .before .before .before .before .before .before .before .before .before .before .before .before .before .before .before .before .loop .inv .barsLength
+same-length-34 : tie.Need-same-length-34 Inv-loop μ-loop
+same-length-34 c = c .before .before .before .before .before .before .before .before .before .before .before .before .before .before .before .before .loop .inv .barsLength
 
-same-length-27 : tie.Need-same-length-27 Inv-loop μ-loop
-same-length-27 c = c .before .before .before .before .before .before .before .before .before .before .before .before .before .before .before .before .loop .inv .figureLength
+same-length-35 : tie.Need-same-length-35 Inv-loop μ-loop
+same-length-35 c = c .before .before .before .before .before .before .before .before .before .before .before .before .before .before .before .before .loop .inv .figureLength
 
-same-length-28 : tie.Need-same-length-28 Inv-loop μ-loop
-same-length-28 c = c .before .before .before .before .before .before .before .before .before .before .before .before .before .before .before .before .loop .inv .scratchLength
+same-length-36 : tie.Need-same-length-36 Inv-loop μ-loop
+same-length-36 c = c .before .before .before .before .before .before .before .before .before .before .before .before .before .before .before .before .loop .inv .scratchLength
 
-returns-7 : tie.Need-returns-7 Inv-loop μ-loop
-returns-7 c = stop-here (c .before .before .before .before .before .before .before .before .before .before .before) (c .before .before .before .before .before .before .before .before .before .token8 .given .1 ∙ ap (λ (w : Marking). t.Marking w) (c .before .before .before .before .before .before .enum-told15 .given .1)) (joining (c .before .before .before .before .before .before .before .before .before .before .before)) refl (c .before .before .check-group .result) (c .stopped7 .ensures) (c .before .before .check-group .ensures) (c .before .if7 .taken)
+returns-9 : tie.Need-returns-9 Inv-loop μ-loop
+returns-9 c = stop-here (c .before .before .before .before .before .before .before .before .before .before .before) (c .before .before .before .before .before .before .before .before .before .token9 .given .1 ∙ ap (λ (w : Marking). t.Marking w) (c .before .before .before .before .before .before .enum-told16 .given .1)) (joining (c .before .before .before .before .before .before .before .before .before .before .before)) refl (c .before .before .check-group .result) (c .stopped9 .ensures) (c .before .before .check-group .ensures) (c .before .if10 .taken)
 
 group-closing-requires : tie.Need-group-closing-requires Inv-loop μ-loop
 group-closing-requires c κs = c .before .before .before .before .before .before .before .before .before .before .before .before .before .before .before .loop .inv .related .groups .count
@@ -973,29 +1104,29 @@ group-closing-requires c κs = c .before .before .before .before .before .before
 group-found-requires : tie.Need-group-found-requires Inv-loop μ-loop
 group-found-requires c κs = (fits-here (c .before .before .before .before .before .before .before .before .before .before .before), first-below (c .before .before .before .before .before .before .before .before .before .before .before .before .before .before .before .before .loop .inv .related .stored))
 
-store-found-requires-10 : tie.Need-store-found-requires-10 Inv-loop μ-loop
-store-found-requires-10 c κs = tt
+store-found-requires-11 : tie.Need-store-found-requires-11 Inv-loop μ-loop
+store-found-requires-11 c κs = tt
 
 close-paren-requires : tie.Need-close-paren-requires Inv-loop μ-loop
-close-paren-requires c κs = (ready-here (c .before .before .before .before .before .before .before .before .before .before .before .before .before .before .before .before) (c .before .before .before .before .before .before .before .before .before .before .before .before .before .before .token8 .given .1 ∙ ap (λ (w : Marking). t.Marking w) (c .before .before .before .before .before .before .before .before .before .before .before .enum-told15 .given .1)) (joining (c .before .before .before .before .before .before .before .before .before .before .before .before .before .before .before .before)) refl (sym (c .before .before .before .before .before .before .before .check-group .ensures) ∙ c .before .before .before .before .before .before .if7 .left) .asked, λ n. c .before .before .before .before .before .group-closing .ensures ∙ ap (λ (k : Timed). closing (k .count) (countIn (c .before .before .before .before .before .before .before .before .before .before .before .before .before .before .before .before .before .before .before .before .before .loop .st .groups .count))) (c .before .before .before .before .before .before .before .before .before .group-timed .ensures) ∙ closing-noted (c .before .before .before .before .before .before .before .before .before .before .before .before .before .before .before .before .before .before .before .before .before .loop .st .groups) (c .before .before .before .before .before .before .before .before .before .before .before .before .before .before .before .before .before .before .before .before .before .loop .st .counts) (c .before .before .before .before .before .before .before .before .before .before .before .before .before .before .before .before .before .before .before .before .before .loop .notes) n)
+close-paren-requires c κs = (ready-here (c .before .before .before .before .before .before .before .before .before .before .before .before .before .before .before .before) (c .before .before .before .before .before .before .before .before .before .before .before .before .before .before .token9 .given .1 ∙ ap (λ (w : Marking). t.Marking w) (c .before .before .before .before .before .before .before .before .before .before .before .enum-told16 .given .1)) (joining (c .before .before .before .before .before .before .before .before .before .before .before .before .before .before .before .before)) refl (sym (c .before .before .before .before .before .before .before .check-group .ensures) ∙ c .before .before .before .before .before .before .if10 .left) .asked, λ n. c .before .before .before .before .before .group-closing .ensures ∙ ap (λ (k : Timed). closing (k .count) (countIn (c .before .before .before .before .before .before .before .before .before .before .before .before .before .before .before .before .before .before .before .before .before .loop .st .groups .count))) (c .before .before .before .before .before .before .before .before .before .group-timed .ensures) ∙ closing-noted (c .before .before .before .before .before .before .before .before .before .before .before .before .before .before .before .before .before .before .before .before .before .loop .st .groups) (c .before .before .before .before .before .before .before .before .before .before .before .before .before .before .before .before .before .before .before .before .before .loop .st .counts) (c .before .before .before .before .before .before .before .before .before .before .before .before .before .before .before .before .before .before .before .before .before .loop .notes) n)
 
 paren-closed-requires : tie.Need-paren-closed-requires Inv-loop μ-loop
 paren-closed-requires c κs = tt
 
-loop-less-21 : tie.Need-loop-less-21 Inv-loop μ-loop
-loop-less-21 c = omega (arith, further-here (c .before .before .before .before .before .before .before .before .before .before .before .before .before .before .before .before .before .before .before), within-here (c .before .before .before .before .before .before .before .before .before .before .before .before .before .before .before .before .before .before .before))
+loop-less-24 : tie.Need-loop-less-24 Inv-loop μ-loop
+loop-less-24 c = omega (arith, further-here (c .before .before .before .before .before .before .before .before .before .before .before .before .before .before .before .before .before .before .before), within-here (c .before .before .before .before .before .before .before .before .before .before .before .before .before .before .before .before .before .before .before))
 
-loop-again-21 : tie.Need-loop-again-21 Inv-loop μ-loop
+loop-again-24 : tie.Need-loop-again-24 Inv-loop μ-loop
 unfolding remarked stepped takenNext notesNext barsNext heldNext
-loop-again-21 c =
+loop-again-24 c =
     let s = c .before .before .before .before .before .before .before .before .before .before .before .before .before .before .before .before .before .before .before .before .before .before .before .before .loop .st in
-    let r = c .before .before .before .before .before .store-found10 in
+    let r = c .before .before .before .before .before .store-found11 in
     let words = found-here (c .before .before .before .before .before .before .before .before .before .before .before .before .before .before .before .before .before .before .before) (groupFound (s .groups) (s .counts) (closingOf (c .before .before .before .before .before .before .before .before .group-closing .result))) (c .before .before .before .before .before .before .before .group-found .ensures) ∙ ap (map diagnosticWords) (found-noted (s .groups) (s .counts) (itemIn (spanOf (placeAt (c .before .before .before .before .before .before .before .before .before .before .before .before .before .before .before .before .before .before .before .before .before .before .before .before .loop .at) (c .before .before .before .before .before .before .before .before .before .before .before .before .before .before .before .before .before .before .before .before .before .before .before .before .loop .tails)) (c .before .before .before .before .before .before .before .before .before .before .before .before .before .before .before .before .before .before .before .before .before .before .before .before .loop .at) (c .before .before .before .before .before .before .before .before .before .before .before .before .before .before .before .before .before .before .before .before .before .before .token-end .result) (c .before .before .before .before .before .before .before .before .before .before .before .before .before .before .before .before .before .before .before .before .before .before .before .before .before .before .before .before .before .before .before .args .start))) (λ n. c .before .before .before .before .before .before .before .before .group-closing .ensures ∙ ap (λ (k : Timed). closing (k .count) (countIn (c .before .before .before .before .before .before .before .before .before .before .before .before .before .before .before .before .before .before .before .before .before .before .before .before .loop .st .groups .count))) (c .before .before .before .before .before .before .before .before .before .before .before .before .group-timed .ensures) ∙ closing-noted (c .before .before .before .before .before .before .before .before .before .before .before .before .before .before .before .before .before .before .before .before .before .before .before .before .loop .st .groups) (c .before .before .before .before .before .before .before .before .before .before .before .before .before .before .before .before .before .before .before .before .before .before .before .before .loop .st .counts) (c .before .before .before .before .before .before .before .before .before .before .before .before .before .before .before .before .before .before .before .before .before .before .before .before .loop .notes) n)) in
-    go-on (c .before .before .before .before .before .before .before .before .before .before .before .before .before .before .before .before .before .before .before) (c .before .before .before .before .before .before .before .before .before .before .before .before .before .before .before .before .before .token8 .given .1 ∙ ap (λ (w : Marking). t.Marking w) (c .before .before .before .before .before .before .before .before .before .before .before .before .before .before .enum-told15 .given .1)) (joining (c .before .before .before .before .before .before .before .before .before .before .before .before .before .before .before .before .before .before .before)) refl (sym (c .before .before .before .before .before .before .before .before .before .before .check-group .ensures) ∙ c .before .before .before .before .before .before .before .before .before .if7 .left) words (r .ensures .0) (r .ensures .1) refl
+    go-on (c .before .before .before .before .before .before .before .before .before .before .before .before .before .before .before .before .before .before .before) (c .before .before .before .before .before .before .before .before .before .before .before .before .before .before .before .before .before .token9 .given .1 ∙ ap (λ (w : Marking). t.Marking w) (c .before .before .before .before .before .before .before .before .before .before .before .before .before .before .enum-told16 .given .1)) refl (joining (c .before .before .before .before .before .before .before .before .before .before .before .before .before .before .before .before .before .before .before)) refl (sym (c .before .before .before .before .before .before .before .before .before .before .check-group .ensures) ∙ c .before .before .before .before .before .before .before .before .before .if10 .left) words (r .ensures .0) (r .ensures .1) refl
     (λ i. withDiagnostics (r .result) (withGroups (c .paren-closed .ensures i) s)) refl refl (c .before .before .close-paren .ensures) refl refl refl refl (r .kept .0)
 
-enum-told-16 : tie.Need-enum-told-16 Inv-loop μ-loop
-enum-told-16 c = search needs
+enum-told-17 : tie.Need-enum-told-17 Inv-loop μ-loop
+enum-told-17 c = search needs
 
 ends-in-note-requires : tie.Need-ends-in-note-requires Inv-loop μ-loop
 ends-in-note-requires c κs = held-here (c .before .before .before .before .before .before)
@@ -1003,49 +1134,49 @@ ends-in-note-requires c κs = held-here (c .before .before .before .before .befo
 unless-requires-4 : tie.Need-unless-requires-4 Inv-loop μ-loop
 unless-requires-4 c κs = fits-here (c .before .before .before .before .before .before .before)
 
-store-found-requires-11 : tie.Need-store-found-requires-11 Inv-loop μ-loop
-store-found-requires-11 c κs = tt
+store-found-requires-12 : tie.Need-store-found-requires-12 Inv-loop μ-loop
+store-found-requires-12 c κs = tt
 
 tie-requires : tie.Need-tie-requires Inv-loop μ-loop
 tie-requires c κs = (λ e. let f = ltb-true (c .before .before .before .before .before .before .before .before .before .before .before .before .before .before .before .before .before .loop .st .counts .first) (c .before .before .before .before .before .before .before .before .before .before .before .before .before .before .before .before .before .loop .st .counts .notes) (both _ _ (sym (c .before .before .before .before .before .ends-in-note .ensures) ∙ e) .0) in omega (arith, f), held-here (c .before .before .before .before .before .before .before .before .before .before .before .before))
 
-loop-less-22 : tie.Need-loop-less-22 Inv-loop μ-loop
-loop-less-22 c = omega (arith, further-here (c .before .before .before .before .before .before .before .before .before .before .before .before .before .before .before .before), within-here (c .before .before .before .before .before .before .before .before .before .before .before .before .before .before .before .before))
+loop-less-25 : tie.Need-loop-less-25 Inv-loop μ-loop
+loop-less-25 c = omega (arith, further-here (c .before .before .before .before .before .before .before .before .before .before .before .before .before .before .before .before), within-here (c .before .before .before .before .before .before .before .before .before .before .before .before .before .before .before .before))
 
-loop-again-22 : tie.Need-loop-again-22 Inv-loop μ-loop
+loop-again-25 : tie.Need-loop-again-25 Inv-loop μ-loop
 unfolding remarked stepped takenNext notesNext barsNext heldNext
-loop-again-22 c =
+loop-again-25 c =
     let l = c .before .before .before .before .before .before .before .before .before .before .before .before .before .before .before .before .before .before .before .before .before .loop in
     let ends = c .before .before .before .before .before .before .before .before .before .ends-in-note .ensures in
-    let r = c .before .before .before .before .before .before .store-found11 in
+    let r = c .before .before .before .before .before .before .store-found12 in
     let words = c .before .before .before .before .before .before .before .before .unless4 .ensures ∙ (λ i. map diagnosticWords (unless (ends i) (whole 16 (itemIn (c .before .before .before .before .before .before .before .before .before .before .before .before .before .before .before .before .span-of .ensures i))))) in
-    go-on (c .before .before .before .before .before .before .before .before .before .before .before .before .before .before .before .before) (c .before .before .before .before .before .before .before .before .before .before .before .before .before .before .token8 .given .1 ∙ ap (λ (w : Marking). t.Marking w) (c .before .before .before .before .before .before .before .before .before .before .before .enum-told16 .given .1)) (joining (c .before .before .before .before .before .before .before .before .before .before .before .before .before .before .before .before)) refl refl words (r .ensures .0) (r .ensures .1) refl
+    go-on (c .before .before .before .before .before .before .before .before .before .before .before .before .before .before .before .before) (c .before .before .before .before .before .before .before .before .before .before .before .before .before .before .token9 .given .1 ∙ ap (λ (w : Marking). t.Marking w) (c .before .before .before .before .before .before .before .before .before .before .before .enum-told17 .given .1)) refl (joining (c .before .before .before .before .before .before .before .before .before .before .before .before .before .before .before .before)) refl refl words (r .ensures .0) (r .ensures .1) refl
     (λ i. withDiagnostics (r .result) (withVoice (tieSet (ends i || l .st .voice .tie) (l .st .voice)) (l .st))) refl refl
     (c .before .before .before .tie .ensures ∙ ap (λ (b : Bool). cond b (tiedCells (l .st .counts) (l .notes)) (l .notes)) ends) refl refl refl refl (r .kept .0)
 
-enum-told-17 : tie.Need-enum-told-17 Inv-loop μ-loop
-enum-told-17 c = search needs
+enum-told-18 : tie.Need-enum-told-18 Inv-loop μ-loop
+enum-told-18 c = search needs
 
 check-trill-requires : tie.Need-check-trill-requires Inv-loop μ-loop
 check-trill-requires c κs = held-here (c .before .before .before .before .before .before)
 
-stopped-requires-8 : tie.Need-stopped-requires-8 Inv-loop μ-loop
-stopped-requires-8 c κs = tt
+stopped-requires-10 : tie.Need-stopped-requires-10 Inv-loop μ-loop
+stopped-requires-10 c κs = tt
 
-same-length-29 : tie.Need-same-length-29 Inv-loop μ-loop
-same-length-29 c = length-notes (c .before .before .before .before .before .before .before .before .before .before .before .before .before .before .loop .inv .related .stored)
+same-length-37 : tie.Need-same-length-37 Inv-loop μ-loop
+same-length-37 c = length-notes (c .before .before .before .before .before .before .before .before .before .before .before .before .before .before .loop .inv .related .stored)
 
-same-length-30 : tie.Need-same-length-30 Inv-loop μ-loop
-same-length-30 c = c .before .before .before .before .before .before .before .before .before .before .before .before .before .before .loop .inv .barsLength
+same-length-38 : tie.Need-same-length-38 Inv-loop μ-loop
+same-length-38 c = c .before .before .before .before .before .before .before .before .before .before .before .before .before .before .loop .inv .barsLength
 
-same-length-31 : tie.Need-same-length-31 Inv-loop μ-loop
-same-length-31 c = c .before .before .before .before .before .before .before .before .before .before .before .before .before .before .loop .inv .figureLength
+same-length-39 : tie.Need-same-length-39 Inv-loop μ-loop
+same-length-39 c = c .before .before .before .before .before .before .before .before .before .before .before .before .before .before .loop .inv .figureLength
 
-same-length-32 : tie.Need-same-length-32 Inv-loop μ-loop
-same-length-32 c = c .before .before .before .before .before .before .before .before .before .before .before .before .before .before .loop .inv .scratchLength
+same-length-40 : tie.Need-same-length-40 Inv-loop μ-loop
+same-length-40 c = c .before .before .before .before .before .before .before .before .before .before .before .before .before .before .loop .inv .scratchLength
 
-returns-8 : tie.Need-returns-8 Inv-loop μ-loop
-returns-8 c = stop-here (c .before .before .before .before .before .before .before .before .before) (c .before .before .before .before .before .before .before .token8 .given .1 ∙ ap (λ (w : Marking). t.Marking w) (c .before .before .before .before .enum-told17 .given .1)) (joining (c .before .before .before .before .before .before .before .before .before)) refl (c .before .before .check-trill .result) (c .stopped8 .ensures) (c .before .before .check-trill .ensures) (c .before .if8 .taken)
+returns-10 : tie.Need-returns-10 Inv-loop μ-loop
+returns-10 c = stop-here (c .before .before .before .before .before .before .before .before .before) (c .before .before .before .before .before .before .before .token9 .given .1 ∙ ap (λ (w : Marking). t.Marking w) (c .before .before .before .before .enum-told18 .given .1)) (joining (c .before .before .before .before .before .before .before .before .before)) refl (c .before .before .check-trill .result) (c .stopped10 .ensures) (c .before .before .check-trill .ensures) (c .before .if11 .taken)
 
 has-content-requires-6 : tie.Need-has-content-requires-6 Inv-loop μ-loop
 has-content-requires-6 c κs = tt
@@ -1053,84 +1184,63 @@ has-content-requires-6 c κs = tt
 unless-requires-5 : tie.Need-unless-requires-5 Inv-loop μ-loop
 unless-requires-5 c κs = fits-here (c .before .before .before .before .before .before .before .before .before)
 
-store-found-requires-12 : tie.Need-store-found-requires-12 Inv-loop μ-loop
-store-found-requires-12 c κs = tt
-
-trill-requires : tie.Need-trill-requires Inv-loop μ-loop
-trill-requires c κs = (c .before .before .before .before .before .has-content6 .ensures, ready-here (c .before .before .before .before .before .before .before .before .before .before .before .before .before .before) (c .before .before .before .before .before .before .before .before .before .before .before .before .token8 .given .1 ∙ ap (λ (w : Marking). t.Marking w) (c .before .before .before .before .before .before .before .before .before .enum-told17 .given .1)) (joining (c .before .before .before .before .before .before .before .before .before .before .before .before .before .before)) refl (sym (c .before .before .before .before .before .before .before .check-trill .ensures) ∙ c .before .before .before .before .before .before .if8 .left) .asked)
-
-loop-less-23 : tie.Need-loop-less-23 Inv-loop μ-loop
-loop-less-23 c = omega (arith, further-here (c .before .before .before .before .before .before .before .before .before .before .before .before .before .before .before .before), within-here (c .before .before .before .before .before .before .before .before .before .before .before .before .before .before .before .before))
-
-loop-again-23 : tie.Need-loop-again-23 Inv-loop μ-loop
-unfolding remarked stepped takenNext notesNext barsNext heldNext
-loop-again-23 c =
-    let h = c .before .before .before .before .before .before .before .has-content6 .ensures in
-    let r = c .before .before .before .before .store-found12 in
-    let words = c .before .before .before .before .before .before .unless5 .ensures ∙ (λ i. map diagnosticWords (unless (h i) (whole 14 (itemIn (c .before .before .before .before .before .before .before .before .before .before .before .before .before .before .before .before .span-of .ensures i))))) in
-    go-on (c .before .before .before .before .before .before .before .before .before .before .before .before .before .before .before .before) (c .before .before .before .before .before .before .before .before .before .before .before .before .before .before .token8 .given .1 ∙ ap (λ (w : Marking). t.Marking w) (c .before .before .before .before .before .before .before .before .before .before .before .enum-told17 .given .1)) (joining (c .before .before .before .before .before .before .before .before .before .before .before .before .before .before .before .before)) refl (sym (c .before .before .before .before .before .before .before .before .before .check-trill .ensures) ∙ c .before .before .before .before .before .before .before .before .if8 .left) words (r .ensures .0) (r .ensures .1) refl refl refl refl (c .before .trill .ensures) refl refl refl refl (r .kept .0)
-
-enum-told-18 : tie.Need-enum-told-18 Inv-loop μ-loop
-enum-told-18 c = search needs
-
-shared-slice-read-if9 : tie.Need-shared-slice-read-if9 Inv-loop μ-loop
-shared-slice-read-if9 c = c .before .before .before .before .before .before .before .loop-test .taken
-
-loop-less-24 : tie.Need-loop-less-24 Inv-loop μ-loop
-loop-less-24 c = omega (arith, further-here (c .before .before .before .before), within-here (c .before .before .before .before))
-
-loop-again-24 : tie.Need-loop-again-24 Inv-loop μ-loop
-unfolding remarked stepped takenNext notesNext barsNext heldNext
-loop-again-24 c = wide-on (c .before .before .before .before) (c .before .before .enum-told18 .given .1) (joining (c .before .before .before .before)) refl refl (low-here (c .before .before .before .before) (c .before .before .enum-told18 .given .1) refl (c .if9 .taken)) refl refl refl refl refl refl refl refl refl refl refl refl refl
-
-tails-after-requires-2 : tie.Need-tails-after-requires-2 Inv-loop μ-loop
-tails-after-requires-2 c κs = (further-here (c .before .before .before .before), within-here (c .before .before .before .before), c .before .before .before .before .before .before .before .before .before .loop .inv .tailed)
-
-loop-less-25 : tie.Need-loop-less-25 Inv-loop μ-loop
-loop-less-25 c = omega (arith, further-here (c .before .before .before .before .before), within-here (c .before .before .before .before .before))
-
-loop-again-25 : tie.Need-loop-again-25 Inv-loop μ-loop
-unfolding remarked stepped takenNext notesNext barsNext heldNext
-loop-again-25 c = wide-on (c .before .before .before .before .before) (c .before .before .before .enum-told18 .given .1) (joining (c .before .before .before .before .before)) refl refl (c .tails-after2 .ensures) refl refl refl refl refl refl refl refl refl refl refl refl refl
-
-enum-told-19 : tie.Need-enum-told-19 Inv-loop μ-loop
-enum-told-19 c = search needs
-
-whole-requires-2 : tie.Need-whole-requires-2 Inv-loop μ-loop
-whole-requires-2 c κs = fits-here (c .before .before)
-
 store-found-requires-13 : tie.Need-store-found-requires-13 Inv-loop μ-loop
 store-found-requires-13 c κs = tt
 
+trill-requires : tie.Need-trill-requires Inv-loop μ-loop
+trill-requires c κs = (c .before .before .before .before .before .has-content6 .ensures, ready-here (c .before .before .before .before .before .before .before .before .before .before .before .before .before .before) (c .before .before .before .before .before .before .before .before .before .before .before .before .token9 .given .1 ∙ ap (λ (w : Marking). t.Marking w) (c .before .before .before .before .before .before .before .before .before .enum-told18 .given .1)) (joining (c .before .before .before .before .before .before .before .before .before .before .before .before .before .before)) refl (sym (c .before .before .before .before .before .before .before .check-trill .ensures) ∙ c .before .before .before .before .before .before .if11 .left) .asked)
+
 loop-less-26 : tie.Need-loop-less-26 Inv-loop μ-loop
-loop-less-26 c = omega (arith, further-here (c .before .before .before .before .before .before), within-here (c .before .before .before .before .before .before))
+loop-less-26 c = omega (arith, further-here (c .before .before .before .before .before .before .before .before .before .before .before .before .before .before .before .before), within-here (c .before .before .before .before .before .before .before .before .before .before .before .before .before .before .before .before))
 
 loop-again-26 : tie.Need-loop-again-26 Inv-loop μ-loop
 unfolding remarked stepped takenNext notesNext barsNext heldNext
 loop-again-26 c =
-    let r = c .before .store-found13 in
-    go-on (c .before .before .before .before .before .before) (c .before .before .before .before .enum-told19 .given .1) (joining (c .before .before .before .before .before .before)) refl refl (found-here (c .before .before .before .before .before .before) (λ y. whole 9 y ∷ []) (c .before .before .before .whole2 .ensures)) (r .ensures .0) (r .ensures .1) refl (refl) refl refl refl refl refl refl refl (r .kept .0)
+    let h = c .before .before .before .before .before .before .before .has-content6 .ensures in
+    let r = c .before .before .before .before .store-found13 in
+    let words = c .before .before .before .before .before .before .unless5 .ensures ∙ (λ i. map diagnosticWords (unless (h i) (whole 14 (itemIn (c .before .before .before .before .before .before .before .before .before .before .before .before .before .before .before .before .span-of .ensures i))))) in
+    go-on (c .before .before .before .before .before .before .before .before .before .before .before .before .before .before .before .before) (c .before .before .before .before .before .before .before .before .before .before .before .before .before .before .token9 .given .1 ∙ ap (λ (w : Marking). t.Marking w) (c .before .before .before .before .before .before .before .before .before .before .before .enum-told18 .given .1)) refl (joining (c .before .before .before .before .before .before .before .before .before .before .before .before .before .before .before .before)) refl (sym (c .before .before .before .before .before .before .before .before .before .check-trill .ensures) ∙ c .before .before .before .before .before .before .before .before .if11 .left) words (r .ensures .0) (r .ensures .1) refl refl refl refl (c .before .trill .ensures) refl refl refl refl (r .kept .0)
+
+enum-told-19 : tie.Need-enum-told-19 Inv-loop μ-loop
+enum-told-19 c = search needs
+
+shared-slice-read-if12 : tie.Need-shared-slice-read-if12 Inv-loop μ-loop
+shared-slice-read-if12 c = c .before .before .before .before .before .before .before .loop-test .taken
+
+loop-less-27 : tie.Need-loop-less-27 Inv-loop μ-loop
+loop-less-27 c = omega (arith, further-here (c .before .before .before .before), within-here (c .before .before .before .before))
+
+loop-again-27 : tie.Need-loop-again-27 Inv-loop μ-loop
+unfolding remarked stepped takenNext notesNext barsNext heldNext
+loop-again-27 c = wide-on (c .before .before .before .before) (c .before .before .enum-told19 .given .1) refl (joining (c .before .before .before .before)) refl refl (low-here (c .before .before .before .before) (c .before .before .enum-told19 .given .1) refl (c .if12 .taken)) refl refl refl refl refl refl refl refl refl refl refl refl refl
+
+tails-after-requires-2 : tie.Need-tails-after-requires-2 Inv-loop μ-loop
+tails-after-requires-2 c κs = (further-here (c .before .before .before .before), within-here (c .before .before .before .before), c .before .before .before .before .before .before .before .before .before .loop .inv .tailed)
+
+loop-less-28 : tie.Need-loop-less-28 Inv-loop μ-loop
+loop-less-28 c = omega (arith, further-here (c .before .before .before .before .before), within-here (c .before .before .before .before .before))
+
+loop-again-28 : tie.Need-loop-again-28 Inv-loop μ-loop
+unfolding remarked stepped takenNext notesNext barsNext heldNext
+loop-again-28 c = wide-on (c .before .before .before .before .before) (c .before .before .before .enum-told19 .given .1) refl (joining (c .before .before .before .before .before)) refl refl (c .tails-after2 .ensures) refl refl refl refl refl refl refl refl refl refl refl refl refl
 
 enum-told-20 : tie.Need-enum-told-20 Inv-loop μ-loop
 enum-told-20 c = search needs
 
-stopped-requires-9 : tie.Need-stopped-requires-9 Inv-loop μ-loop
-stopped-requires-9 c κs = tt
+whole-requires-2 : tie.Need-whole-requires-2 Inv-loop μ-loop
+whole-requires-2 c κs = fits-here (c .before .before)
 
-same-length-33 : tie.Need-same-length-33 Inv-loop μ-loop
-same-length-33 c = length-notes (c .before .before .before .before .before .before .before .before .loop .inv .related .stored)
+store-found-requires-14 : tie.Need-store-found-requires-14 Inv-loop μ-loop
+store-found-requires-14 c κs = tt
 
-same-length-34 : tie.Need-same-length-34 Inv-loop μ-loop
-same-length-34 c = c .before .before .before .before .before .before .before .before .loop .inv .barsLength
+loop-less-29 : tie.Need-loop-less-29 Inv-loop μ-loop
+loop-less-29 c = omega (arith, further-here (c .before .before .before .before .before .before), within-here (c .before .before .before .before .before .before))
 
-same-length-35 : tie.Need-same-length-35 Inv-loop μ-loop
-same-length-35 c = c .before .before .before .before .before .before .before .before .loop .inv .figureLength
-
-same-length-36 : tie.Need-same-length-36 Inv-loop μ-loop
-same-length-36 c = c .before .before .before .before .before .before .before .before .loop .inv .scratchLength
-
-returns-9 : tie.Need-returns-9 Inv-loop μ-loop
-returns-9 c = stop-here (c .before .before .before) (c .before .enum-told20 .given .1) (joining (c .before .before .before)) refl 6 (c .stopped9 .ensures) refl (λ z. omega arith)
+loop-again-29 : tie.Need-loop-again-29 Inv-loop μ-loop
+unfolding remarked stepped takenNext notesNext barsNext heldNext
+loop-again-29 c =
+    let r = c .before .store-found14 in
+    go-on (c .before .before .before .before .before .before) (c .before .before .before .before .enum-told20 .given .1) refl (joining (c .before .before .before .before .before .before)) refl refl (found-here (c .before .before .before .before .before .before) (λ y. whole 9 y ∷ []) (c .before .before .before .whole2 .ensures)) (r .ensures .0) (r .ensures .1) refl (refl) refl refl refl refl refl refl refl (r .kept .0)
 
 enum-told-21 : tie.Need-enum-told-21 Inv-loop μ-loop
 enum-told-21 c = search needs
@@ -1138,47 +1248,47 @@ enum-told-21 c = search needs
 whole-requires-3 : tie.Need-whole-requires-3 Inv-loop μ-loop
 whole-requires-3 c κs = fits-here (c .before .before)
 
-store-found-requires-14 : tie.Need-store-found-requires-14 Inv-loop μ-loop
-store-found-requires-14 c κs = tt
+store-found-requires-15 : tie.Need-store-found-requires-15 Inv-loop μ-loop
+store-found-requires-15 c κs = tt
 
-shared-slice-read-if10 : tie.Need-shared-slice-read-if10 Inv-loop μ-loop
-shared-slice-read-if10 c = c .before .before .before .before .before .before .before .before .before .before .before .loop-test .taken
+shared-slice-read-if13 : tie.Need-shared-slice-read-if13 Inv-loop μ-loop
+shared-slice-read-if13 c = c .before .before .before .before .before .before .before .before .before .before .before .loop-test .taken
 
-loop-less-27 : tie.Need-loop-less-27 Inv-loop μ-loop
-loop-less-27 c = omega (arith, further-here (c .before .before .before .before .before .before .before .before), within-here (c .before .before .before .before .before .before .before .before))
+loop-less-30 : tie.Need-loop-less-30 Inv-loop μ-loop
+loop-less-30 c = omega (arith, further-here (c .before .before .before .before .before .before .before .before), within-here (c .before .before .before .before .before .before .before .before))
 
-loop-again-27 : tie.Need-loop-again-27 Inv-loop μ-loop
+loop-again-30 : tie.Need-loop-again-30 Inv-loop μ-loop
 unfolding remarked stepped takenNext notesNext barsNext heldNext
-loop-again-27 c =
-    let r = c .before .before .before .store-found14 in
-    wide-on (c .before .before .before .before .before .before .before .before) (c .before .before .before .before .before .before .enum-told21 .given .1) (joining (c .before .before .before .before .before .before .before .before)) refl refl (low-here (c .before .before .before .before .before .before .before .before) (c .before .before .before .before .before .before .enum-told21 .given .1) refl (c .if10 .taken)) (found-here (c .before .before .before .before .before .before .before .before) (λ y. whole 15 y ∷ []) (c .before .before .before .before .before .whole3 .ensures)) (r .ensures .0) (r .ensures .1) refl (refl) refl refl refl refl refl refl refl (r .kept .0)
+loop-again-30 c =
+    let r = c .before .before .before .store-found15 in
+    wide-on (c .before .before .before .before .before .before .before .before) (c .before .before .before .before .before .before .enum-told21 .given .1) refl (joining (c .before .before .before .before .before .before .before .before)) refl refl (low-here (c .before .before .before .before .before .before .before .before) (c .before .before .before .before .before .before .enum-told21 .given .1) refl (c .if13 .taken)) (found-here (c .before .before .before .before .before .before .before .before) (λ y. whole 15 y ∷ []) (c .before .before .before .before .before .whole3 .ensures)) (r .ensures .0) (r .ensures .1) refl (refl) refl refl refl refl refl refl refl (r .kept .0)
 
 tails-after-requires-3 : tie.Need-tails-after-requires-3 Inv-loop μ-loop
 tails-after-requires-3 c κs = (further-here (c .before .before .before .before .before .before .before .before), within-here (c .before .before .before .before .before .before .before .before), c .before .before .before .before .before .before .before .before .before .before .before .before .before .loop .inv .tailed)
 
-loop-less-28 : tie.Need-loop-less-28 Inv-loop μ-loop
-loop-less-28 c = omega (arith, further-here (c .before .before .before .before .before .before .before .before .before), within-here (c .before .before .before .before .before .before .before .before .before))
+loop-less-31 : tie.Need-loop-less-31 Inv-loop μ-loop
+loop-less-31 c = omega (arith, further-here (c .before .before .before .before .before .before .before .before .before), within-here (c .before .before .before .before .before .before .before .before .before))
 
-loop-again-28 : tie.Need-loop-again-28 Inv-loop μ-loop
+loop-again-31 : tie.Need-loop-again-31 Inv-loop μ-loop
 unfolding remarked stepped takenNext notesNext barsNext heldNext
-loop-again-28 c =
-    let r = c .before .before .before .before .store-found14 in
-    wide-on (c .before .before .before .before .before .before .before .before .before) (c .before .before .before .before .before .before .before .enum-told21 .given .1) (joining (c .before .before .before .before .before .before .before .before .before)) refl refl (c .tails-after3 .ensures) (found-here (c .before .before .before .before .before .before .before .before .before) (λ y. whole 15 y ∷ []) (c .before .before .before .before .before .before .whole3 .ensures)) (r .ensures .0) (r .ensures .1) refl (refl) refl refl refl refl refl refl refl (r .kept .0)
+loop-again-31 c =
+    let r = c .before .before .before .before .store-found15 in
+    wide-on (c .before .before .before .before .before .before .before .before .before) (c .before .before .before .before .before .before .before .enum-told21 .given .1) refl (joining (c .before .before .before .before .before .before .before .before .before)) refl refl (c .tails-after3 .ensures) (found-here (c .before .before .before .before .before .before .before .before .before) (λ y. whole 15 y ∷ []) (c .before .before .before .before .before .before .whole3 .ensures)) (r .ensures .0) (r .ensures .1) refl (refl) refl refl refl refl refl refl refl (r .kept .0)
 
-same-length-37 : tie.Need-same-length-37 Inv-loop μ-loop
-same-length-37 c = length-notes (c .before .loop .inv .related .stored)
+same-length-41 : tie.Need-same-length-41 Inv-loop μ-loop
+same-length-41 c = length-notes (c .before .loop .inv .related .stored)
 
-same-length-38 : tie.Need-same-length-38 Inv-loop μ-loop
-same-length-38 c = c .before .loop .inv .barsLength
+same-length-42 : tie.Need-same-length-42 Inv-loop μ-loop
+same-length-42 c = c .before .loop .inv .barsLength
 
-same-length-39 : tie.Need-same-length-39 Inv-loop μ-loop
-same-length-39 c = c .before .loop .inv .figureLength
+same-length-43 : tie.Need-same-length-43 Inv-loop μ-loop
+same-length-43 c = c .before .loop .inv .figureLength
 
-same-length-40 : tie.Need-same-length-40 Inv-loop μ-loop
-same-length-40 c = c .before .loop .inv .scratchLength
+same-length-44 : tie.Need-same-length-44 Inv-loop μ-loop
+same-length-44 c = c .before .loop .inv .scratchLength
 
-returns-10 : tie.Need-returns-10 Inv-loop μ-loop
-returns-10 c =
+returns-11 : tie.Need-returns-11 Inv-loop μ-loop
+returns-11 c =
     let a = c .before .before .before .before .before .before .before .before .args in
     let l = c .before .loop in
     subst (λ (k : Attributes). DataRead (a .«data» .now) (a .start) k (a .diagnostics) (a .scratch .now) (length (a .notes .now)) (length (a .bars .now)) (a .room) (record { number = 0; place = 0; st = l .st }) (l .notes) (l .bars) (l .scratch))
@@ -1298,170 +1408,191 @@ read-data-spec =
     loop-less-10
     loop-again-10
     enum-known-token-4
-    check-bar-requires
+    room-for-requires-2
     stopped-requires-3
     same-length-9
     same-length-10
     same-length-11
     same-length-12
     returns-3
-    store-bar-requires
-    has-content-requires-4
-    bar-attributes-requires
-    bar-counted-requires
-    cleared-requires-2
+    whole-bar-rest-requires
+    counted-requires-2
     loop-less-11
     loop-again-11
-    enum-known-token-5
-    grace-requires
-    loop-less-12
-    loop-again-12
-    enum-known-token-6
-    unless-requires
-    store-found-requires-5
-    loop-less-13
-    loop-again-13
-    enum-known-token-7
-    enum-told-8
-    check-mark-requires
+    sub-further-bars
+    further-bars-requires
     stopped-requires-4
     same-length-13
     same-length-14
     same-length-15
     same-length-16
     returns-4
-    open-length-requires
-    mark-found-requires
-    store-found-requires-6
-    figure-mark-requires
-    figure-closed-requires
-    figure-marked-requires
-    loop-less-14
-    loop-again-14
-    enum-told-9
-    room-for-requires-2
+    cleared-requires-2
+    loop-less-12
+    loop-again-12
+    enum-told-8
+    after-first-requires
+    store-found-requires-5
+    loop-less-13
+    loop-again-13
+    enum-known-token-5
+    check-bar-requires
     stopped-requires-5
     same-length-17
     same-length-18
     same-length-19
     same-length-20
     returns-5
-    unless-requires-2
-    store-found-requires-7
-    figure-repeat-requires
-    counted-requires-2
+    store-bar-requires
+    has-content-requires-4
+    bar-attributes-requires
+    bar-counted-requires
+    cleared-requires-3
+    loop-less-14
+    loop-again-14
+    enum-known-token-6
+    grace-requires
     loop-less-15
     loop-again-15
-    enum-told-10
-    repeated-count-requires
-    room-for-requires-3
+    enum-known-token-7
+    unless-requires
+    store-found-requires-6
+    loop-less-16
+    loop-again-16
+    enum-known-token-8
+    enum-told-9
+    check-mark-requires
     stopped-requires-6
     same-length-21
     same-length-22
     same-length-23
     same-length-24
     returns-6
-    has-content-requires-5
-    unless-requires-3
-    store-found-requires-8
-    bar-repeat-requires
-    counted-requires-3
-    loop-less-16
-    loop-again-16
-    enum-known-token-8
-    enum-told-11
-    open-length-requires-2
-    beam-opened-requires
+    open-length-requires
+    mark-found-requires
+    store-found-requires-7
+    figure-mark-requires
+    figure-closed-requires
+    figure-marked-requires
     loop-less-17
     loop-again-17
-    enum-told-12
-    close-beam-requires
-    beam-closed-requires
-    loop-less-18
-    loop-again-18
-    enum-told-13
-    open-length-requires-3
-    paren-opened-requires
-    loop-less-19
-    loop-again-19
-    enum-told-14
-    add-from-4
-    sub-count
-    part-count-start
-    part-count-end
-    count-requires
-    count-found-requires
-    store-found-requires-9
-    paren-counted-requires
-    loop-less-20
-    loop-again-20
-    enum-told-15
-    group-timed-requires
-    check-group-requires
+    enum-told-10
+    room-for-requires-3
     stopped-requires-7
     same-length-25
     same-length-26
     same-length-27
     same-length-28
     returns-7
-    group-closing-requires
-    group-found-requires
-    store-found-requires-10
-    close-paren-requires
-    paren-closed-requires
-    loop-less-21
-    loop-again-21
-    enum-told-16
-    ends-in-note-requires
-    unless-requires-4
-    store-found-requires-11
-    tie-requires
-    loop-less-22
-    loop-again-22
-    enum-told-17
-    check-trill-requires
+    unless-requires-2
+    store-found-requires-8
+    figure-repeat-requires
+    counted-requires-3
+    loop-less-18
+    loop-again-18
+    enum-told-11
+    repeated-count-requires
+    room-for-requires-4
     stopped-requires-8
     same-length-29
     same-length-30
     same-length-31
     same-length-32
     returns-8
-    has-content-requires-6
-    unless-requires-5
-    store-found-requires-12
-    trill-requires
+    has-content-requires-5
+    unless-requires-3
+    store-found-requires-9
+    bar-repeat-requires
+    counted-requires-4
+    loop-less-19
+    loop-again-19
+    enum-known-token-9
+    enum-told-12
+    open-length-requires-2
+    beam-opened-requires
+    loop-less-20
+    loop-again-20
+    enum-told-13
+    close-beam-requires
+    beam-closed-requires
+    loop-less-21
+    loop-again-21
+    enum-told-14
+    open-length-requires-3
+    paren-opened-requires
+    loop-less-22
+    loop-again-22
+    enum-told-15
+    add-from-4
+    sub-count
+    part-count-start
+    part-count-end
+    count-requires
+    count-found-requires
+    store-found-requires-10
+    paren-counted-requires
     loop-less-23
     loop-again-23
-    enum-told-18
-    shared-slice-read-if9
-    loop-less-24
-    loop-again-24
-    tails-after-requires-2
-    loop-less-25
-    loop-again-25
-    enum-told-19
-    whole-requires-2
-    store-found-requires-13
-    loop-less-26
-    loop-again-26
-    enum-told-20
+    enum-told-16
+    group-timed-requires
+    check-group-requires
     stopped-requires-9
     same-length-33
     same-length-34
     same-length-35
     same-length-36
     returns-9
-    enum-told-21
-    whole-requires-3
-    store-found-requires-14
-    shared-slice-read-if10
-    loop-less-27
-    loop-again-27
-    tails-after-requires-3
-    loop-less-28
-    loop-again-28
+    group-closing-requires
+    group-found-requires
+    store-found-requires-11
+    close-paren-requires
+    paren-closed-requires
+    loop-less-24
+    loop-again-24
+    enum-told-17
+    ends-in-note-requires
+    unless-requires-4
+    store-found-requires-12
+    tie-requires
+    loop-less-25
+    loop-again-25
+    enum-told-18
+    check-trill-requires
+    stopped-requires-10
     same-length-37
     same-length-38
     same-length-39
     same-length-40
-    returns-10)
+    returns-10
+    has-content-requires-6
+    unless-requires-5
+    store-found-requires-13
+    trill-requires
+    loop-less-26
+    loop-again-26
+    enum-told-19
+    shared-slice-read-if12
+    loop-less-27
+    loop-again-27
+    tails-after-requires-2
+    loop-less-28
+    loop-again-28
+    enum-told-20
+    whole-requires-2
+    store-found-requires-14
+    loop-less-29
+    loop-again-29
+    enum-told-21
+    whole-requires-3
+    store-found-requires-15
+    shared-slice-read-if13
+    loop-less-30
+    loop-again-30
+    tails-after-requires-3
+    loop-less-31
+    loop-again-31
+    same-length-41
+    same-length-42
+    same-length-43
+    same-length-44
+    returns-11)

@@ -4,6 +4,7 @@ use mathlib.Core.Path.{_≡_, ap, subst, _∙_}
 use lib.ListN.{length, take, drop}
 use borrow.Author.Needs.{needs}
 use Rattle.rules.specs.Limits.{textLimit, barSize}
+use Rattle.steps.proofs.CountLaws.{first-below}
 use Rattle.rules.specs.Characters.{charactersIn}
 use Rattle.rules.specs.Fields.{fieldsOf}
 use Rattle.rules.specs.Reading.{Lent}
@@ -94,7 +95,7 @@ finish-requires c κs =
       (λ filled. let lends : roomIn (length (a .notes .now)) (length (a .bars .now)) (length (a .figure .now)) .bars * barSize ≤ length (a .bars .now) = omega arith in
           omega (arith, bars-ready (length (a .bars .now)) counts (roomIn (length (a .notes .now)) (length (a .bars .now)) (length (a .figure .now)) .bars) lends filled (end-fits (c .before .before) .0), x .read-data .kept .1 .1 .1 .1 .1 .0)),
       d .finished h .stored .capped,
-      omega (arith, d .finished h .few, inside (x .before .before .before .before .before .before .before .before .before .before .before)),
+      omega (arith, d .finished h .few, first-below (d .finished h .stored), d .finished h .stored .capped),
       omega (arith, few-diagnosed (p .diagnosed) d h),
     )
 
