@@ -17,7 +17,7 @@ use records::diagnostic::words_of;
 // So many diagnostics find room in the scratch that is tried first: few texts have more.
 const NEAR: usize = 64;
 
-// Number d1 to d19; place kind and place; value kind, start and end.
+// Number d1 to d20; place kind and place; value kind, start and end.
 #[repr(C)]
 pub struct Diagnostic {
     pub number: i32,

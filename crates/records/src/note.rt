@@ -47,7 +47,7 @@ pub const PITCH_COUNT: usize = 10;
 
 pub const BAR_NUMBER: usize = 11;
 
-// The place of the storing token; kind (0 note, 1 rest, 2 grace, 3 slashed grace); duration; dots.
+// The place of the storing token; kind (0 note, 1 rest, 2 grace, 3 slashed grace, 4 whole-bar rest); duration; dots.
 pub struct Heading {
     pub place: Place,
     pub kind: u8,
