@@ -1,4 +1,5 @@
-//! The library behind its C interface, and the comparison of every lent cell with the model's answer.
+//! The library behind its C interface, and the comparison of every lent cell with the model's answer. The interface is
+//! declared here from include/pae.h, and nothing is shared with tests/bulk: a slip there is none here.
 
 use crate::model::{Answer, BAR_WORDS, DIAGNOSTIC_WORDS, Lent, NOTE_WORDS, read};
 
