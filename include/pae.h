@@ -1,6 +1,8 @@
-/* A proved reader of Plaine & Easie Code (PAE) incipits: one function over lent buffers.
+/* A proved reader of Plaine & Easie Code (PAE) incipits: three functions over lent buffers. pae_read
+ * reads a text into records, pae_write_card makes a card of the records, the bytes to be stored, and
+ * pae_read_card reads the card back.
  *
- * It allocates nothing, keeps nothing between calls and writes only to the buffers lent to it. Link
+ * They allocate nothing, keep nothing between calls and write only to the buffers lent to them. Link
  * libpae.a, which `rt staticlib pae` writes to target/staticlib.
  *
  * Texts are in UTF-8. Data places count the characters (Unicode scalar values) of the data from 1;
@@ -35,6 +37,14 @@ extern "C" {
 #define PAE_PITCH_WORDS 4
 #define PAE_NOTE_WORDS (PAE_NOTE_PITCHES + PAE_MAX_PITCHES * PAE_PITCH_WORDS)
 #define PAE_BAR_WORDS 10
+
+/* The sizes of a card, in bytes. */
+#define PAE_CARD_FRONT_BYTES 5 /* before the first bar */
+#define PAE_CARD_BAR_BYTES 12  /* the most of a bar, without its notes */
+#define PAE_CARD_NOTE_BYTES 43 /* the most of a note */
+/* The most bytes of a card with so many notes and bars. */
+#define PAE_CARD_BYTES(notes, bars) \
+    (PAE_CARD_FRONT_BYTES + (size_t)(bars) * PAE_CARD_BAR_BYTES + (size_t)(notes) * PAE_CARD_NOTE_BYTES)
 
 /* The words of a note record, and of a figure record. */
 enum {
@@ -153,6 +163,12 @@ enum {
     PAE_REFUSED_NO_NOTES = 13          /* the data hold no note and no rest; place 0 */
 };
 
+/* Why a card is refused: the number of a PaeCardWritten or PaeCardRead, else PAE_ACCEPTED. */
+enum {
+    PAE_REFUSED_NOT_A_CARD = 14, /* not the bytes of a card; of the writer, not records of a card */
+    PAE_REFUSED_CARD_ROOM = 15   /* card or records don't fit what is lent; checked after 14 */
+};
+
 /* What a diagnostic is about. acorde's code is pae.unsupported- and the word in brackets. */
 enum {
     PAE_D_UNSUPPORTED_LINE = 1,      /* [line] in field form, a line that is no field */
@@ -229,6 +245,58 @@ PaeReading pae_read(const uint8_t *text, size_t text_len,
                     int32_t *bars, size_t bars_len,
                     int32_t *figure, size_t figure_len,
                     PaeDiagnostic *diagnostics, size_t diagnostics_len);
+
+/* A card: notes and bars as bytes, to be stored. Numbers of several bytes have the low byte first.
+ *
+ *     front           a bar                         a note                        a pitch
+ *     1  the byte 1   1  bit map                    1  bit map                    2  place
+ *     4  bar count    4  note count                 2  place                      1  step + 7 * octave
+ *                     1  bit 0: clef                1  duration * 4 + dots        1  alteration + 2
+ *                     1  bit 1: fifths + 7          1  bit 0: kind
+ *                     3  bit 2: numerator,          1  bit 1: ties
+ *                        denominator, symbol        1  bit 2: beam
+ *                     1  bit 3: left                1  bit 3: tuplet actual
+ *                     1  bit 4: right               2  bit 4: mark count, marks
+ *                        its notes                  1  bit 5: pitch count
+ *                                                      its pitches
+ *
+ * The bars follow the front. A field with a bit is there only where its bit stands: where its first
+ * word isn't 0, for the key where it is set. Other bits are 0. What isn't there follows: first notes
+ * and bar numbers run on from 0 and 1, tuplet normal is the greatest power of two below actual.
+ *
+ * The records of a card: at least one bar, at most PAE_MAX_NOTES notes, every word in its range as said
+ * above, places from 1 to 65,535, actual 0 or from 3 to 255. Every bar has a note; a rest of either kind
+ * has no pitch, another note one or more. Words of a field that isn't there, unused pitches and mark
+ * bits from the count on are 0. Nothing else is asked: any barline may stand on either side, any symbol
+ * with any meter, the first bar may lack clef and key, a whole-bar rest may have a duration. What
+ * pae_read accepts is always such records. docs/CARD.md has a card byte by byte.
+ *
+ * No pointer may be null, not even for length 0, and no buffer may overlap another. What the buffers to
+ * be written held before doesn't matter. */
+typedef struct PaeCardWritten {
+    uint32_t number; /* PAE_ACCEPTED, PAE_REFUSED_NOT_A_CARD or PAE_REFUSED_CARD_ROOM */
+    uint32_t length; /* bytes of the card; 0 after a refusal */
+} PaeCardWritten;
+
+typedef struct PaeCardRead {
+    uint32_t number; /* PAE_ACCEPTED, PAE_REFUSED_NOT_A_CARD or PAE_REFUSED_CARD_ROOM */
+    uint32_t notes;  /* stored note records; 0 after a refusal, as the next */
+    uint32_t bars;   /* stored bar records */
+} PaeCardRead;
+
+/* Writes the card of the records into card_len lent bytes; PAE_CARD_BYTES are enough. The records are
+ * all the words of notes and bars: give the counted ones, reading.notes * PAE_NOTE_WORDS and
+ * reading.bars * PAE_BAR_WORDS. Every byte behind the card is 0, after a refusal every byte. */
+PaeCardWritten pae_write_card(const int32_t *notes, size_t notes_len,
+                              const int32_t *bars, size_t bars_len,
+                              uint8_t *card, size_t card_len);
+
+/* Reads a card of card_len bytes into the lent records, of which the whole ones count. A note takes at
+ * least 5 bytes and so does a bar, so that card_len / 5 note and card_len / 10 bar records are enough.
+ * Every cell behind the counted records is 0, after a refusal every cell. */
+PaeCardRead pae_read_card(const uint8_t *card, size_t card_len,
+                          int32_t *notes, size_t notes_len,
+                          int32_t *bars, size_t bars_len);
 
 #ifdef __cplusplus
 }

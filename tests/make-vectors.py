@@ -222,7 +222,7 @@ def taken(texts, oracle):
 def counts(cases, oracle):
     accepted = [t for t, number in cases if not number]
     stored = {kind: sum(len(oracle.records(t, kind)[:d.STORED if kind == "D" else None]) for t in accepted) for kind in "NBD"}
-    lines = [(len(cases), "texts, 0 differ"), (len(cases) - len(accepted), "refused"), (stored["N"], "notes"), (stored["B"], "bars"), (stored["D"], "diagnostics")]
+    lines = [(len(cases), "texts, 0 differ"), (len(cases) - len(accepted), "refused"), (len(accepted), "come back from their cards"), (stored["N"], "notes"), (stored["B"], "bars"), (stored["D"], "diagnostics")]
     return "".join("%d %s\n" % line for line in lines)
 
 

@@ -1,10 +1,13 @@
 /* Reads one incipit, the first argument or standard input, and prints its notes, bars and
- * diagnostics, or why it is refused. Exit status: 0 accepted, 1 refused, 2 no memory or no input. */
+ * diagnostics, or why it is refused. Writes the card of what is accepted, reads it back and tells
+ * whether that gives the same. Exit status: 0 accepted, 1 refused, 2 no memory or no input. */
 #include "pae.h"
 
 #include <stdio.h>
 #include <stdlib.h>
 #include <string.h>
+
+enum { SHORT_CARD = 64, BYTES_OF_A_LINE = 16 };
 
 typedef struct Buffers {
     int32_t *notes, *bars, *figure;
@@ -171,6 +174,41 @@ static void print_diagnostic(PaeDiagnostic found, const uint8_t *text) {
         printf("%d\n", (int)found.start);
 }
 
+static void print_bytes(const uint8_t *bytes, uint32_t count) {
+    uint32_t i;
+    for (i = 0; i < count; i++)
+        printf("%s%02x%s", i % BYTES_OF_A_LINE == 0 ? "  " : " ", (unsigned)bytes[i],
+               i % BYTES_OF_A_LINE == BYTES_OF_A_LINE - 1 || i + 1 == count ? "\n" : "");
+}
+
+/* Whether the card reads to these records. A bar has a note, so that bars are no more than notes. */
+static int reads_back(const uint8_t *card, size_t length, PaeReading reading, Buffers lent) {
+    Buffers back = lend(reading.notes);
+    size_t note_words = reading.notes * (size_t)PAE_NOTE_WORDS;
+    size_t bar_words = reading.bars * (size_t)PAE_BAR_WORDS;
+    PaeCardRead got = pae_read_card(card, length, back.notes, note_words, back.bars, bar_words);
+    int same = got.number == PAE_ACCEPTED && got.notes == reading.notes && got.bars == reading.bars &&
+               memcmp(back.notes, lent.notes, note_words * sizeof(int32_t)) == 0 &&
+               memcmp(back.bars, lent.bars, bar_words * sizeof(int32_t)) == 0;
+    give_back(back);
+    return same;
+}
+
+static void print_card(PaeReading reading, Buffers lent) {
+    size_t size = PAE_CARD_BYTES(reading.notes, reading.bars);
+    uint8_t *card = malloc(size);
+    PaeCardWritten written;
+    if (card == NULL)
+        out_of_memory();
+    written = pae_write_card(lent.notes, reading.notes * (size_t)PAE_NOTE_WORDS, lent.bars,
+                             reading.bars * (size_t)PAE_BAR_WORDS, card, size);
+    printf("card: %u bytes, read back %s\n", (unsigned)written.length,
+           reads_back(card, written.length, reading, lent) ? "the same" : "otherwise");
+    if (written.length <= SHORT_CARD)
+        print_bytes(card, written.length);
+    free(card);
+}
+
 static int print_reading(const uint8_t *text, size_t length) {
     Buffers lent;
     PaeReading reading = read_text(text, length, &lent);
@@ -180,6 +218,8 @@ static int print_reading(const uint8_t *text, size_t length) {
     print_bars(reading, lent);
     for (i = 0; i < reading.diagnostics; i++)
         print_diagnostic(diagnostics[i], text);
+    if (reading.number == PAE_ACCEPTED)
+        print_card(reading, lent);
     give_back(lent);
     return reading.number == PAE_ACCEPTED ? 0 : 1;
 }

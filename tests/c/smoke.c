@@ -1,5 +1,5 @@
-/* The reader from C: the thirteen proved lines, rests of whole bars, characters beyond ASCII, refusals
- * over poisoned buffers, and little lent. */
+/* The library from C: the thirteen proved lines, rests of whole bars, characters beyond ASCII, refusals
+ * over poisoned buffers, little lent, and cards written and read back. */
 #include "pae.h"
 
 #include <stdio.h>
@@ -12,6 +12,9 @@ static int32_t bars[RECORDS * PAE_BAR_WORDS];
 static int32_t figure[RECORDS * PAE_NOTE_WORDS];
 static PaeDiagnostic cells[PAE_DIAGNOSTIC_CELLS + 1];
 static PaeReading got;
+static int32_t kept_notes[RECORDS * PAE_NOTE_WORDS];
+static int32_t kept_bars[RECORDS * PAE_BAR_WORDS];
+static uint8_t card[PAE_CARD_BYTES(RECORDS, RECORDS)];
 static int failures;
 
 #define CHECK(condition) check((condition), #condition, __LINE__)
@@ -61,14 +64,18 @@ static int32_t pitch(int note, int index) {
     return word(note, PAE_NOTE_PITCHES + index);
 }
 
-/* Whether the words from `first` to `last` are all `value`. */
-static int are(const void *from, size_t first, size_t last, unsigned char value) {
-    const unsigned char *bytes = from;
+/* Whether the bytes from `first` to `last` are all `value`. */
+static int bytes_are(const unsigned char *bytes, size_t first, size_t last, unsigned char value) {
     size_t i;
-    for (i = first * sizeof(int32_t); i < last * sizeof(int32_t); i++)
+    for (i = first; i < last; i++)
         if (bytes[i] != value)
             return 0;
     return 1;
+}
+
+/* Whether the words from `first` to `last` have `value` in each byte. */
+static int are(const void *from, size_t first, size_t last, unsigned char value) {
+    return bytes_are(from, first * sizeof(int32_t), last * sizeof(int32_t), value);
 }
 
 /* Whether every lent cell is 0 behind the counted records, and no other cell was touched. */
@@ -269,6 +276,149 @@ static void parts_of_records_lent(void) {
     CHECK(rest_is_clear(note_words, PAE_BAR_WORDS, PAE_NOTE_WORDS - 1, PAE_DIAGNOSTIC_CELLS));
 }
 
+/* The line of docs/CARD.md and its card. */
+static const char example_text[] = "%F-4$bB@3/4 ,2.B+/4B-";
+static const uint8_t example[] = {
+    1, 2, 0, 0, 0,                                     /* two bars */
+    7, 1, 0, 0, 0, 3, 6, 3, 4, 0,                      /* bass, one flat, 3/4; one note */
+    0x22, 16, 0, 3 * 4 + 1, 1, 1, 16, 0, 6 + 7 * 3, 1, /* B flat 3, half with a dot, tie start */
+    0, 2, 0, 0, 0,                                     /* nothing set; two notes */
+    0x22, 20, 0, 4 * 4, 2, 1, 20, 0, 6 + 7 * 3, 1,     /* B flat 3, quarter, tie end */
+    1, 21, 0, 4 * 4, 1};                               /* rest, quarter */
+enum { CARD_NOTES = 3, CARD_BARS = 2 };
+
+/* Keeps the line's records. */
+static void keep(void) {
+    read_line(example_text);
+    CHECK(counts(CARD_NOTES, CARD_BARS, 0));
+    memcpy(kept_notes, notes, sizeof notes);
+    memcpy(kept_bars, bars, sizeof bars);
+}
+
+/* Writes the kept records' first words into so many poisoned bytes; whether that gives this number and
+ * length, every lent byte behind is 0 and no other is touched. */
+static int writes(size_t note_words, size_t bar_words, size_t card_bytes, uint32_t number,
+                  uint32_t length) {
+    PaeCardWritten written;
+    memset(card, POISON, sizeof card);
+    written = pae_write_card(kept_notes, note_words, kept_bars, bar_words, card, card_bytes);
+    return written.number == number && written.length == length &&
+           bytes_are(card, length, card_bytes, 0) &&
+           bytes_are(card, card_bytes, sizeof card, POISON);
+}
+
+/* Whether the records with this word instead are no card's. */
+static int no_records(int32_t *word_of_a_record, int32_t value) {
+    int32_t kept = *word_of_a_record;
+    int holds;
+    *word_of_a_record = value;
+    holds = writes(CARD_NOTES * PAE_NOTE_WORDS, CARD_BARS * PAE_BAR_WORDS, sizeof card,
+                   PAE_REFUSED_NOT_A_CARD, 0);
+    *word_of_a_record = kept;
+    return holds;
+}
+
+static void cards_written(void) {
+    size_t note_words = CARD_NOTES * PAE_NOTE_WORDS, bar_words = CARD_BARS * PAE_BAR_WORDS;
+    keep();
+    CHECK(writes(note_words, bar_words, sizeof card, PAE_ACCEPTED, sizeof example));
+    CHECK(memcmp(card, example, sizeof example) == 0);
+    CHECK(writes(note_words, bar_words, sizeof example, PAE_ACCEPTED, sizeof example));
+    CHECK(writes(note_words, bar_words, sizeof example - 1, PAE_REFUSED_CARD_ROOM, 0));
+    CHECK(writes(note_words, bar_words, 0, PAE_REFUSED_CARD_ROOM, 0));
+    CHECK(writes(0, 0, sizeof card, PAE_REFUSED_NOT_A_CARD, 0));
+    CHECK(writes(note_words - 1, bar_words, sizeof card, PAE_REFUSED_NOT_A_CARD, 0));
+    CHECK(writes(note_words, bar_words + 1, 0, PAE_REFUSED_NOT_A_CARD, 0));
+    CHECK(writes(note_words + PAE_NOTE_WORDS, bar_words, sizeof card, PAE_REFUSED_NOT_A_CARD, 0));
+    CHECK(writes(note_words, PAE_BAR_WORDS, sizeof card, PAE_REFUSED_NOT_A_CARD, 0));
+}
+
+static void records_of_no_card(void) {
+    keep();
+    CHECK(no_records(&kept_notes[PAE_NOTE_PLACE], 0));
+    CHECK(no_records(&kept_notes[PAE_NOTE_PLACE], 65536));
+    CHECK(no_records(&kept_notes[PAE_NOTE_KIND], PAE_KIND_REST));
+    CHECK(no_records(&kept_notes[PAE_NOTE_DURATION], -1));
+    CHECK(no_records(&kept_notes[PAE_NOTE_DOTS], 4));
+    CHECK(no_records(&kept_notes[PAE_NOTE_TUPLET_NORMAL], 2));
+    CHECK(no_records(&kept_notes[PAE_NOTE_MARKS], 1));
+    CHECK(no_records(&kept_notes[PAE_NOTE_PITCH_COUNT], 0));
+    CHECK(no_records(&kept_notes[PAE_NOTE_BAR], 2));
+    CHECK(no_records(&kept_notes[PAE_NOTE_WORDS - 1], 1));
+    CHECK(no_records(&kept_bars[PAE_BAR_FIRST_NOTE], 1));
+    CHECK(no_records(&kept_bars[PAE_BAR_NOTE_COUNT], 2));
+    CHECK(no_records(&kept_bars[PAE_BAR_KEY_SET], 0));
+    CHECK(no_records(&kept_bars[PAE_BAR_DENOMINATOR], 3));
+    CHECK(no_records(&kept_bars[PAE_BAR_WORDS + PAE_BAR_SYMBOL], PAE_SYMBOL_CUT));
+}
+
+/* Reads the card's first bytes into so many poisoned words; whether that gives this number and counts,
+ * every lent word behind them is 0 and no other is touched. */
+static int reads(size_t card_bytes, size_t note_words, size_t bar_words, uint32_t number,
+                 uint32_t note_count, uint32_t bar_count) {
+    PaeCardRead back;
+    poison();
+    back = pae_read_card(card, card_bytes, notes, note_words, bars, bar_words);
+    return back.number == number && back.notes == note_count && back.bars == bar_count &&
+           are(notes, note_count * PAE_NOTE_WORDS, note_words, 0) &&
+           are(notes, note_words, RECORDS * PAE_NOTE_WORDS, POISON) &&
+           are(bars, bar_count * PAE_BAR_WORDS, bar_words, 0) &&
+           are(bars, bar_words, RECORDS * PAE_BAR_WORDS, POISON);
+}
+
+static int reads_to_nothing(size_t card_bytes) {
+    return reads(card_bytes, RECORDS * PAE_NOTE_WORDS, RECORDS * PAE_BAR_WORDS,
+                 PAE_REFUSED_NOT_A_CARD, 0, 0);
+}
+
+static void put_card(void) {
+    memset(card, 0, sizeof card);
+    memcpy(card, example, sizeof example);
+}
+
+static void cards_read(void) {
+    size_t note_words = CARD_NOTES * PAE_NOTE_WORDS, bar_words = CARD_BARS * PAE_BAR_WORDS;
+    keep();
+    put_card();
+    CHECK(reads(sizeof example, RECORDS * PAE_NOTE_WORDS, RECORDS * PAE_BAR_WORDS, PAE_ACCEPTED,
+                CARD_NOTES, CARD_BARS));
+    CHECK(memcmp(notes, kept_notes, sizeof notes) == 0 && memcmp(bars, kept_bars, sizeof bars) == 0);
+    CHECK(reads(sizeof example, note_words, bar_words, PAE_ACCEPTED, CARD_NOTES, CARD_BARS));
+    CHECK(reads(sizeof example, note_words + 1, bar_words + 1, PAE_ACCEPTED, CARD_NOTES, CARD_BARS));
+    CHECK(reads(sizeof example, note_words - 1, bar_words, PAE_REFUSED_CARD_ROOM, 0, 0));
+    CHECK(reads(sizeof example, note_words, bar_words - 1, PAE_REFUSED_CARD_ROOM, 0, 0));
+    CHECK(reads(sizeof example, 0, 0, PAE_REFUSED_CARD_ROOM, 0, 0));
+    CHECK(reads(sizeof example - 1, 0, 0, PAE_REFUSED_NOT_A_CARD, 0, 0));
+}
+
+/* Whether the card with this byte instead is none. */
+static int no_card(size_t at, uint8_t value) {
+    put_card();
+    card[at] = value;
+    return reads_to_nothing(sizeof example);
+}
+
+static void bytes_of_no_card(void) {
+    size_t length;
+    put_card();
+    for (length = 0; length < sizeof example; length++)
+        CHECK(reads_to_nothing(length));
+    CHECK(reads_to_nothing(sizeof example + 1));
+    CHECK(no_card(0, 2));                          /* another first byte */
+    CHECK(no_card(1, 1) && no_card(1, 3));         /* a bar fewer, a bar more */
+    CHECK(no_card(4, 2));                          /* the bar count's high byte */
+    CHECK(no_card(5, 0x27));                       /* an unused bit */
+    CHECK(no_card(6, 0) && no_card(6, 2));         /* no note, a note more */
+    CHECK(no_card(10, 0) && no_card(10, 9));       /* a bit over 0, clef 9 */
+    CHECK(no_card(11, 15) && no_card(13, 3));      /* eight sharps, no power of two */
+    CHECK(no_card(16, 0) && no_card(18, 40));      /* place 0, duration 10 */
+    CHECK(no_card(19, 0) && no_card(19, 4));       /* a bit over 0, ties 4 */
+    CHECK(no_card(20, 0) && no_card(20, 9));       /* a bit over 0, nine pitches */
+    CHECK(no_card(23, 70) && no_card(24, 5));      /* octave 10, alteration 3 */
+    CHECK(no_card(40, 0) && no_card(40, 0x21));    /* a rest's bits: no pitch at all, a pitch */
+    CHECK(no_card(44, 0) && no_card(44, 5));       /* a bit over 0, kind 5 */
+}
+
 int main(void) {
     accidentals();
     rhythm();
@@ -280,6 +430,10 @@ int main(void) {
     malformed();
     nothing_lent();
     parts_of_records_lent();
+    cards_written();
+    records_of_no_card();
+    cards_read();
+    bytes_of_no_card();
     puts(failures == 0 ? "smoke: all hold" : "smoke: failed");
     return failures == 0 ? 0 : 1;
 }

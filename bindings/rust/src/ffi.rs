@@ -1,4 +1,4 @@
-//! The proved reader's one function.
+//! The library's three functions.
 
 use crate::words::DiagnosticCell;
 
@@ -10,6 +10,21 @@ pub struct Answer {
     pub notes: u32,
     pub bars: u32,
     pub diagnostics: u32,
+}
+
+/// The card writer's answer: the refusal's number (0: written) and the card's length.
+#[repr(C)]
+pub struct CardWritten {
+    pub number: u32,
+    pub length: u32,
+}
+
+/// The card reader's answer: the refusal's number (0: read) and the counts of stored records.
+#[repr(C)]
+pub struct CardRead {
+    pub number: u32,
+    pub notes: u32,
+    pub bars: u32,
 }
 
 unsafe extern "C" {
@@ -25,10 +40,28 @@ unsafe extern "C" {
         diagnostics: *mut DiagnosticCell,
         diagnostics_len: usize,
     ) -> Answer;
+
+    fn pae_write_card(
+        notes: *const i32,
+        notes_len: usize,
+        bars: *const i32,
+        bars_len: usize,
+        card: *mut u8,
+        card_len: usize,
+    ) -> CardWritten;
+
+    fn pae_read_card(
+        card: *const u8,
+        card_len: usize,
+        notes: *mut i32,
+        notes_len: usize,
+        bars: *mut i32,
+        bars_len: usize,
+    ) -> CardRead;
 }
 
 /// Reads `text` into the lent slices.
-pub fn call(
+pub fn read(
     text: &[u8],
     notes: &mut [i32],
     bars: &mut [i32],
@@ -51,6 +84,36 @@ pub fn call(
             figure.len(),
             diagnostics.as_mut_ptr(),
             diagnostics.len(),
+        )
+    }
+}
+
+/// Writes the card of the records into the lent slice.
+pub fn write_card(notes: &[i32], bars: &[i32], card: &mut [u8]) -> CardWritten {
+    // SAFETY: as in `read`; every value of a `u8` is a value that the function may write.
+    unsafe {
+        pae_write_card(
+            notes.as_ptr(),
+            notes.len(),
+            bars.as_ptr(),
+            bars.len(),
+            card.as_mut_ptr(),
+            card.len(),
+        )
+    }
+}
+
+/// Reads `card` into the lent slices.
+pub fn read_card(card: &[u8], notes: &mut [i32], bars: &mut [i32]) -> CardRead {
+    // SAFETY: as in `read`.
+    unsafe {
+        pae_read_card(
+            card.as_ptr(),
+            card.len(),
+            notes.as_mut_ptr(),
+            notes.len(),
+            bars.as_mut_ptr(),
+            bars.len(),
         )
     }
 }

@@ -18,7 +18,7 @@ pub struct Buffers<'a> {
     pub diagnostics: &'a mut [DiagnosticCell],
 }
 
-/// The records of a reading, in the lent buffers.
+/// The records of a text or a card, in the lent buffers.
 #[derive(Clone, Copy, Debug, PartialEq, Eq)]
 pub struct Lent<'a> {
     /// The stored notes; see [`words::note`](crate::words::note) and
@@ -27,7 +27,7 @@ pub struct Lent<'a> {
     /// The stored bars; see [`words::bar`](crate::words::bar) and
     /// [`Bar::from_words`](crate::Bar::from_words).
     pub bars: &'a [BarWords],
-    /// The stored diagnostics.
+    /// The stored diagnostics; none of a card.
     pub diagnostics: &'a [DiagnosticCell],
 }
 
@@ -56,7 +56,7 @@ pub fn read_into<'a>(text: &[u8], buffers: Buffers<'a>) -> Result<Lent<'a>, Refu
         figure,
         diagnostics,
     } = buffers;
-    let answer = ffi::call(
+    let answer = ffi::read(
         text,
         notes.as_flattened_mut(),
         bars.as_flattened_mut(),
@@ -73,8 +73,8 @@ pub fn read_into<'a>(text: &[u8], buffers: Buffers<'a>) -> Result<Lent<'a>, Refu
     })
 }
 
-/// The first `count` of `records`; the reader counts no more than there are.
-fn first<T>(records: &[T], count: u32) -> &[T] {
+/// The first `count` of `records`; the library counts no more than there are.
+pub(crate) fn first<T>(records: &[T], count: u32) -> &[T] {
     let count = usize::try_from(count).unwrap_or(usize::MAX);
     &records[..count.min(records.len())]
 }

@@ -47,9 +47,33 @@
 //! The span of a diagnostic counts bytes: `&text[span]` is its value.
 //!
 //! [`read_into`] does the same over lent buffers and allocates nothing.
+//!
+//! # Catalogue cards
+//!
+//! [`Reading::to_card`] makes a card of a reading's notes and bars, a short run of bytes to be stored
+//! beside the shelf mark; [`Reading::from_card`] makes the same notes and bars of it again. The text
+//! and its diagnostics are no part of a card. The repository's docs/CARD.md has the bytes.
+//!
+//! ```
+//! use urthmoli::{CardError, Reading};
+//!
+//! let reading = urthmoli::read("$bB 4B+/B")?;
+//! let card = reading.to_card()?;
+//! assert_eq!(card.len(), 37);
+//! let again = Reading::from_card(&card)?;
+//! assert_eq!((again.notes, again.bars), (reading.notes, reading.bars));
+//!
+//! let cut = Reading::from_card(&card[..36]);
+//! assert_eq!(cut, Err(CardError::NotACard));
+//! # Ok::<(), Box<dyn std::error::Error>>(())
+//! ```
+//!
+//! [`write_card_into`] and [`read_card_into`] do so over lent records and bytes and allocate nothing.
 
 #![deny(missing_docs, unsafe_code)]
 
+mod card;
+mod card_error;
 mod diagnostic;
 #[allow(unsafe_code)]
 mod ffi;
@@ -62,6 +86,8 @@ mod refusal;
 mod word;
 pub mod words;
 
+pub use card::{max_card_bytes, read_card_into, write_card_into};
+pub use card_error::CardError;
 pub use diagnostic::{Diagnostic, DiagnosticKind, Position};
 pub use lent::{Buffers, Lent, read_into};
 pub use limits::{

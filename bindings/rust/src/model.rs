@@ -2,8 +2,8 @@
 
 use crate::limits::{MAX_MARKS, MAX_PITCHES};
 use crate::list::List;
-use crate::word::{UnknownWord, count, number, unless_zero, words_enum};
-use crate::words::{BarWords, NoteWords, PITCH_WORDS, bar, note, pitch};
+use crate::word::{UnknownWord, count, number, unless_zero, word, words_enum};
+use crate::words::{BAR_WORDS, BarWords, NOTE_WORDS, NoteWords, PITCH_WORDS, bar, note, pitch};
 use std::fmt;
 
 words_enum! {
@@ -216,6 +216,15 @@ impl Pitch {
             alter: number("alteration", words[pitch::ALTER])?,
         })
     }
+
+    fn words(&self) -> [i32; PITCH_WORDS] {
+        let mut words = [0; PITCH_WORDS];
+        words[pitch::PLACE] = word(self.place);
+        words[pitch::STEP] = self.step.word();
+        words[pitch::OCTAVE] = word(self.octave);
+        words[pitch::ALTER] = word(self.alter);
+        words
+    }
 }
 
 impl fmt::Display for Pitch {
@@ -234,7 +243,8 @@ pub struct Note {
     pub place: u32,
     /// What it is.
     pub kind: NoteKind,
-    /// Its written length; none exactly for a whole-bar rest.
+    /// Its written length. Of a text it is none exactly for a whole-bar rest; a card may give one
+    /// to such a rest too.
     pub duration: Option<Duration>,
     /// Its dots, 0 to 3.
     pub dot_count: u8,
@@ -269,11 +279,41 @@ impl Note {
             bar: number("bar number", words[note::BAR])?,
         })
     }
+
+    /// The record that stands for it, of which [`from_words`](Self::from_words) makes it again. None
+    /// where no record does: a note without a duration that is no whole-bar rest, a tuplet of 0.
+    pub fn to_words(&self) -> Option<NoteWords> {
+        let words = self.words();
+        (Self::from_words(&words) == Ok(*self)).then_some(words)
+    }
+
+    fn words(&self) -> NoteWords {
+        let mut words = [0; NOTE_WORDS];
+        words[note::PLACE] = word(self.place);
+        words[note::KIND] = self.kind.word();
+        words[note::DURATION] = self.duration.map_or(0, Duration::word);
+        words[note::DOTS] = word(self.dot_count);
+        words[note::TIES] = self.ties.word();
+        words[note::BEAM] = self.beam.word();
+        if let Some(tuplet) = self.tuplet {
+            words[note::TUPLET_ACTUAL] = word(tuplet.actual_notes);
+            words[note::TUPLET_NORMAL] = word(tuplet.normal_notes);
+        }
+        words[note::MARK_COUNT] = word(self.articulations.len());
+        words[note::MARKS] = mark_bits(&self.articulations);
+        words[note::PITCH_COUNT] = word(self.pitches.len());
+        words[note::BAR] = word(self.bar);
+        let (pitches, _) = words[note::PITCHES..].as_chunks_mut();
+        for (cells, pitch) in pitches.iter_mut().zip(&self.pitches) {
+            *cells = pitch.words();
+        }
+        words
+    }
 }
 
 fn duration(kind: NoteKind, word: i32) -> Result<Option<Duration>, UnknownWord> {
     match kind {
-        NoteKind::WholeBarRest => Ok(None),
+        NoteKind::WholeBarRest => unless_zero(word, Duration::from_word),
         _ => Duration::from_word(word).map(Some),
     }
 }
@@ -291,6 +331,12 @@ fn articulations(words: &NoteWords) -> Result<List<Articulation, MAX_MARKS>, Unk
     let count = count("number of marks", words[note::MARK_COUNT], MAX_MARKS)?;
     let marks = (0..count).map(|mark| Articulation::from_word(words[note::MARKS] >> mark & 1));
     List::collect(Articulation::Fermata, marks)
+}
+
+/// The marks as bits, the first one lowest.
+fn mark_bits(marks: &[Articulation]) -> i32 {
+    let last_first = marks.iter().rev();
+    last_first.fold(0, |bits, mark| 2 * bits + mark.word())
 }
 
 fn pitches(words: &NoteWords) -> Result<List<Pitch, MAX_PITCHES>, UnknownWord> {
@@ -325,9 +371,9 @@ pub struct Bar {
     pub first_note: usize,
     /// The number of its notes.
     pub note_count: usize,
-    /// The clef set at its start; the first bar always has one.
+    /// The clef set at its start; the first bar of a text always has one.
     pub clef: Option<Clef>,
-    /// The key set at its start; the first bar always has one.
+    /// The key set at its start; the first bar of a text always has one.
     pub key_sig: Option<KeySignature>,
     /// The meter set at its start.
     pub time_sig: Option<TimeSignature>,
@@ -352,6 +398,32 @@ impl Bar {
             barline_left: Barline::from_word(words[bar::LEFT])?,
             barline_right: Barline::from_word(words[bar::RIGHT])?,
         })
+    }
+
+    /// The record that stands for it, of which [`from_words`](Self::from_words) makes it again. None
+    /// where no record does: a meter of numerator 0, a number beyond the words'.
+    pub fn to_words(&self) -> Option<BarWords> {
+        let words = self.words();
+        (Self::from_words(&words) == Ok(*self)).then_some(words)
+    }
+
+    fn words(&self) -> BarWords {
+        let mut words = [0; BAR_WORDS];
+        words[bar::FIRST_NOTE] = word(self.first_note);
+        words[bar::NOTE_COUNT] = word(self.note_count);
+        words[bar::CLEF] = self.clef.map_or(0, Clef::word);
+        if let Some(key) = self.key_sig {
+            words[bar::KEY_SET] = 1;
+            words[bar::FIFTHS] = word(key.fifths);
+        }
+        if let Some(meter) = self.time_sig {
+            words[bar::NUMERATOR] = word(meter.numerator);
+            words[bar::DENOMINATOR] = word(meter.denominator);
+        }
+        words[bar::SYMBOL] = self.time_symbol.map_or(0, TimeSymbol::word);
+        words[bar::LEFT] = self.barline_left.word();
+        words[bar::RIGHT] = self.barline_right.word();
+        words
     }
 }
 

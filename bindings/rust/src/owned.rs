@@ -8,14 +8,15 @@ use crate::refusal::Refusal;
 use crate::word::UnknownWord;
 use crate::words::{BAR_WORDS, DiagnosticCell, NOTE_WORDS};
 
-/// What a text reads to.
+/// What a text or a card reads to.
 #[derive(Clone, Debug, PartialEq, Eq)]
 pub struct Reading {
     /// The notes and rests of all bars.
     pub notes: Vec<Note>,
     /// The bars, each with at least one note.
     pub bars: Vec<Bar>,
-    /// What was found amiss, first in the fields, then in the data; at most [`DIAGNOSTIC_CELLS`].
+    /// What was found amiss, first in the fields, then in the data; at most [`DIAGNOSTIC_CELLS`],
+    /// and none of a card.
     pub diagnostics: Vec<Diagnostic>,
 }
 
@@ -28,7 +29,7 @@ impl Reading {
             .unwrap_or_default()
     }
 
-    fn from_lent(lent: &Lent<'_>, text: &[u8]) -> Result<Self, UnknownWord> {
+    pub(crate) fn from_lent(lent: &Lent<'_>, text: &[u8]) -> Result<Self, UnknownWord> {
         Ok(Self {
             notes: each(lent.notes, Note::from_words)?,
             bars: each(lent.bars, Bar::from_words)?,

@@ -1,4 +1,4 @@
-//! From a stored word to what it stands for.
+//! From a stored word to what it stands for, and back.
 
 use std::error::Error;
 use std::fmt;
@@ -35,6 +35,11 @@ impl Error for UnknownWord {}
 /// A number in the range of its type.
 pub(crate) fn number<T: TryFrom<i32>>(what: &'static str, word: i32) -> Result<T, UnknownWord> {
     T::try_from(word).map_err(|_| UnknownWord::new(what, word))
+}
+
+/// The word that holds `number`; the greatest word where none does.
+pub(crate) fn word(number: impl TryInto<i32>) -> i32 {
+    number.try_into().unwrap_or(i32::MAX)
 }
 
 /// A number of things of which there are at most `limit`.

@@ -1,11 +1,17 @@
-// The public surface: reads a text into lent records and a lent list of diagnostics.
+// The public surface: reads a text into lent records and a lent list of diagnostics; writes records as a catalogue card, and reads it back.
 ghost use mathlib.Core.Path.{_≡_};
 ghost use Prim.Native.Nat.{_+_, _*_, _≤_};
 ghost use lib.ListN.{length};
 ghost use Rattle.rules.specs.Limits.{diagnosticSize};
+ghost use Rattle.card.specs.Card.{form1};
+ghost use Rattle.card.specs.Answers.{Written, ReadBack};
 ghost use Rattle.reading.specs.Answer.{lentWords};
 ghost use Rattle.pae.specs.List.{blank, blanks, stored, lentOf, recordAt, published};
 ghost use Rattle.pae.specs.Promise.{Promise};
+use cardreader::read::CardRead;
+use cardreader::read::read_card;
+use cardwriter::write::CardWritten;
+use cardwriter::write::write_card;
 use limits::Pae;
 use reading::read::Reading;
 use reading::read::read;
@@ -134,4 +140,20 @@ pub extern "C" fn pae_read(
     clear(diagnostics);
     publish(&scratch, r.diagnostics as usize, diagnostics);
     r
+}
+
+// Writes the card of note and bar records that are exactly the lent slices: the card's bytes, or one refusal after which every lent byte is 0.
+#[no_mangle]
+pub extern "C" fn pae_write_card(notes: &[i32], bars: &[i32], card: &mut [u8]) -> CardWritten
+    ensures { λ r. ⌜ Written form1 (now (notes .entry)) (now (bars .entry)) (length (now (card .entry))) (record { number = r .number; length = r .length; card = now (card .exit) }) ⌝ }
+{
+    write_card(notes, bars, card)
+}
+
+// Reads a card of any bytes and any length into lent records: the records whose card it is, or one refusal after which every lent cell is 0.
+#[no_mangle]
+pub extern "C" fn pae_read_card(card: &[u8], notes: &mut [i32], bars: &mut [i32]) -> CardRead
+    ensures { λ r. ⌜ ReadBack form1 (now (card .entry)) (length (now (notes .entry))) (length (now (bars .entry))) (record { number = r .number; notes = r .notes; bars = r .bars; noteCells = now (notes .exit); barCells = now (bars .exit) }) ⌝ }
+{
+    read_card(card, notes, bars)
 }

@@ -45,7 +45,7 @@ abbrev pub storedBy : Item → ℕ → State → List Note
 storedBy x further s = replicate further (wholeBarRest (x .place)) ++ cond (isBarline (x .token)) [] (stores (x .place) (x .token) s)
 
 -- a step leaves the stored headings alone and adds those of what it stores
-headings-step : (x : Item) (s : State) → headings (stored (step x s)) ≡ headings (cond (isBarline (x .token)) [] (stores (x .place) (x .token) s)) ++ headings (stored s)
+pub headings-step : (x : Item) (s : State) → headings (stored (step x s)) ≡ headings (cond (isBarline (x .token)) [] (stores (x .place) (x .token) s)) ++ headings (stored s)
 unfolding step
 headings-step x s = go (isBarline (x .token))
   where

@@ -336,7 +336,7 @@ pub fn key_of(value: &[u8]) -> Key
     }
 }
 
-fn is_power_of_two(n: u8) -> bool
+pub fn is_power_of_two(n: u8) -> bool
     ensures { λ r. ⌜ r ≡ isPowerOfTwo n ⌝ }
 {
     u8::count_ones(n) == 1

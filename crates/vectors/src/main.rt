@@ -1,11 +1,13 @@
-// Replays a list of texts with the original's answers, on standard input, and says which texts are read otherwise.
-// README.md has the list's format.
+// Replays a list of texts with the original's answers, on standard input, and says which texts are read otherwise, and
+// which readings don't come back from their cards. README.md has the list's format.
 ghost use mathlib.Core.Path.{_≡_};
 ghost use Prim.Native.Nat.{_≤_};
 ghost use lib.ListN.{length};
 use libc::STDIN_FILENO;
 use libc::STDOUT_FILENO;
 use limits::Pae;
+use pae::pae_read_card;
+use pae::pae_write_card;
 use reading::read::Reading;
 use reading::read::read;
 use records::cells::BAR;
@@ -37,6 +39,9 @@ const CELLS: usize = Pae::MAX_DIAGNOSTICS;
 
 const SCRATCH: usize = CELLS * DIAGNOSTIC;
 
+// Lent for a card: more than those records take.
+const CARD: usize = 65536;
+
 // A text of the list without its escapes, and where its answer begins.
 struct Entry {
     size: usize,
@@ -61,6 +66,7 @@ struct Tally {
     texts: u64,
     differ: u64,
     refused: u64,
+    cards: u64,
     notes: u64,
     bars: u64,
     diagnostics: u64,
@@ -325,6 +331,64 @@ fn same_answer(
     ended.same
 }
 
+// ---- cards
+
+fn same_cells(cells: &[i32], others: &[i32]) -> bool {
+    if cells.len() != others.len() {
+        return false;
+    }
+    let mut i = 0;
+    while i < cells.len() {
+        if cells[i] != others[i] {
+            return false;
+        }
+        i += 1;
+    }
+    true
+}
+
+// Whether a card reads to these cells, the first `count` notes and `bar_count` bars being its records.
+fn reads_to(card: &[u8], notes: &[i32], bars: &[i32], count: u32, bar_count: u32) -> bool {
+    let mut own_notes = [0i32; NOTES];
+    let mut own_bars = [0i32; BARS];
+    let r = pae_read_card(card, &mut own_notes, &mut own_bars);
+    (r.number == 0)
+        & (r.notes == count)
+        & (r.bars == bar_count)
+        & same_cells(notes, &own_notes)
+        & same_cells(bars, &own_bars)
+}
+
+// Whether the records of a reading come back from their card.
+fn comes_back(notes: &[i32], bars: &[i32], count: u32, bar_count: u32) -> bool {
+    let words = count as usize * NOTE;
+    let bar_words = bar_count as usize * BAR;
+    if notes.len() < words {
+        return false;
+    }
+    if bars.len() < bar_words {
+        return false;
+    }
+    let mut card = [0u8; CARD];
+    let w = pae_write_card(&notes[..words], &bars[..bar_words], &mut card);
+    let size = w.length as usize;
+    if w.number != 0 {
+        return false;
+    }
+    if CARD < size {
+        return false;
+    }
+    reads_to(&card[..size], notes, bars, count, bar_count)
+}
+
+// A reading that was refused has no card.
+fn has_card(r: Reading, notes: &[i32], bars: &[i32]) -> bool {
+    if r.number != 0 {
+        return false;
+    }
+    comes_back(notes, bars, r.notes, r.bars)
+}
+
 // ---- the list replayed
 
 // One more where it is so.
@@ -335,12 +399,13 @@ fn one_more(count: u64, more: bool) -> u64 {
     count
 }
 
-fn counted(tally: Tally, at: usize, same: bool, r: Reading) -> Tally {
+fn counted(tally: Tally, at: usize, same: bool, card: bool, r: Reading) -> Tally {
     Tally {
         at,
         texts: one_more(tally.texts, true),
         differ: one_more(tally.differ, !same),
         refused: one_more(tally.refused, r.number != 0),
+        cards: one_more(tally.cards, card),
         notes: std::num::wrapping_add_u64(tally.notes, r.notes as u64),
         bars: std::num::wrapping_add_u64(tally.bars, r.bars as u64),
         diagnostics: std::num::wrapping_add_u64(tally.diagnostics, r.diagnostics as u64),
@@ -360,7 +425,7 @@ fn print_line(list: &[u8], start: usize, end: usize) {
     io::write_all(STDOUT_FILENO, b"\n");
 }
 
-// A text read, and its answer, which begins at `answer`, compared.
+// A text read, its answer, which begins at `answer`, compared, and its card written and read.
 fn replay_text(
     list: &[u8],
     tally: Tally,
@@ -374,11 +439,12 @@ fn replay_text(
     clear(found);
     let r = read(text, notes, bars, figure, found, CELLS);
     let same = same_answer(list, answer, text, r, notes, bars, found);
+    let card = has_card(r, notes, bars);
     let end = line_end(list, answer);
     if !same {
         print_line(list, tally.at, end);
     }
-    counted(tally, after(list, end), same, r)
+    counted(tally, after(list, end), same, card, r)
 }
 
 // The text at `tally.at`.
@@ -419,6 +485,7 @@ fn replay(
         texts: 0,
         differ: 0,
         refused: 0,
+        cards: 0,
         notes: 0,
         bars: 0,
         diagnostics: 0,
@@ -470,6 +537,7 @@ fn main() {
     print_count(tally.texts, b" texts, ");
     print_count(tally.differ, b" differ\n");
     print_count(tally.refused, b" refused\n");
+    print_count(tally.cards, b" come back from their cards\n");
     print_count(tally.notes, b" notes\n");
     print_count(tally.bars, b" bars\n");
     print_count(tally.diagnostics, b" diagnostics\n");

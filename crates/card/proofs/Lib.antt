@@ -1,0 +1,11 @@
+pub mod FieldLaws
+pub mod PartLaws
+pub mod PutLaws
+pub mod WordLaws
+pub mod NoteLaws
+pub mod SuchLaws
+pub mod HeadLaws
+pub mod BarLaws
+pub mod RecordLaws
+pub mod RoundTrip
+pub mod Lines

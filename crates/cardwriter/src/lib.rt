@@ -1,0 +1,2 @@
+// Whether lent records are such that a card holds, and the card written from them.
+pub mod write;
