@@ -111,6 +111,7 @@ enum {
     PAE_TIE_END = 2
 };
 
+/* A beam closed in a later bar than it was opened in is none; no diagnostic says so. */
 enum {
     PAE_BEAM_NONE = 0,
     PAE_BEAM_BEGIN = 1,
@@ -180,14 +181,14 @@ enum {
     PAE_D_UNSUPPORTED_TIME = 7,      /* [time] no meter; the old one is kept */
     PAE_D_UNSUPPORTED_OCTAVE = 8,    /* [octave] outside 0 to 9; the old one is kept */
     PAE_D_UNSUPPORTED_BARLINE = 9,   /* [barline] a lone : */
-    PAE_D_GROUP_OVER_BARLINE = 10,   /* [tuplet] a ) in a bar shorter than the group's start */
+    PAE_D_GROUP_OVER_BARLINE = 10,   /* [tuplet] a ) of a group opened in an earlier bar */
     PAE_D_SMALL_TUPLET = 11,         /* [tuplet] a count below 3 */
     PAE_D_TUPLET_COUNT = 12,         /* [tuplet] a ; without a group or a count of 0 to 255 */
     PAE_D_UNMATCHED_PAREN = 13,      /* [token] a ) without ( */
     PAE_D_TRILL_WITHOUT_NOTE = 14,   /* [token] a t before the bar's first note */
     PAE_D_UNSUPPORTED_TOKEN = 15,    /* [token] a character without a meaning here */
     PAE_D_TIE_WITHOUT_NOTE = 16,     /* [tie] a + that follows no note of its bar */
-    PAE_D_FIGURE_OVER_BARLINE = 17,  /* [repeat] a ! in a bar shorter than the figure's start */
+    PAE_D_FIGURE_OVER_BARLINE = 17,  /* [repeat] a ! of a figure opened in an earlier bar */
     PAE_D_REPEAT_WITHOUT_FIGURE = 18, /* [repeat] an f without a figure */
     PAE_D_REPEAT_INSIDE_BAR = 19,    /* [repeat] an i that doesn't start a bar, or has none before */
     PAE_D_WHOLE_BAR_COUNT = 20       /* [measure-rest] an = with a count outside 1 to

@@ -20,6 +20,11 @@ A text with rests of whole bars (`=`), which the Rust reads otherwise, is writte
 That holds but for kind, length and places, where no tie waits at the `=` and the pattern has one length; elsewhere, what
 differs stands in BY_HAND, and other texts are left out. Beyond the count there are rests of every form at every place
 where one can stand, and one text with rests for every eight.
+
+Groups, beams and figures that are closed in a later bar, which the Rust reads otherwise too, are taken out for the
+oracle: what opens them becomes a blank, a `)` or second `!` a `?`, whose d15 stands for the d10 or d17 that is due.
+Beyond the count there are the texts of OVER_BARLINES, whose diagnostics, beams, tuplets and marks are stated by hand and
+must be those that the oracle's answer comes to, and one text full of groups for every eight.
 """
 import argparse
 import os
@@ -277,6 +282,20 @@ BY_HAND = {
 }
 
 
+# groups, beams and figures over barlines: the diagnostics with their places; by record, what isn't 0 of beam, tuplet actual and mark count
+BEAM, ACTUAL, MARKS = 5, 6, 8
+OVER_BARLINES = {
+    b"C(D/EFG)": ([(10, 8)], {}), b"(C/D)": ([(10, 5)], {}), b"(C/)": ([(10, 4)], {}), b"(C/DEF;5)": ([(10, 9)], {}), b"(C/D;2)": ([(10, 7)], {}), b"C(D/;5)": ([(10, 7)], {}), b"(C/i)": ([(10, 5)], {}),
+    b"(C/D;)E": ([(12, 5), (10, 6)], {}), b"(C/D);5": ([(10, 5), (12, 6)], {}), b"(C/D)E)": ([(10, 5), (13, 7)], {}), b"(C(D/E)F)": ([(10, 7), (13, 9)], {}), b"(C/D)(E)": ([(10, 5)], {(2, MARKS): 1}),
+    b"(C;5/D)(EF)": ([(10, 7)], {(2, ACTUAL): 3, (3, ACTUAL): 3}), b"(C/(DE)": ([], {(1, ACTUAL): 3, (2, ACTUAL): 3}), b"(/CDE)": ([], {(0, ACTUAL): 3, (1, ACTUAL): 3, (2, ACTUAL): 3}), b"(//:C)": ([], {(0, MARKS): 1}),
+    b"C/(/D)": ([], {(1, MARKS): 1}), b"C/(/D/E)": ([(10, 8)], {}), b"(C:D)": ([(9, 3)], {(0, ACTUAL): 3, (1, ACTUAL): 3}), b"(C/Dtttttttt)": ([(10, 13)], {(1, MARKS): 8}), b"(C//:D)": ([(10, 7)], {}),
+    b"{C/DE}": ([], {}), b"{C/}": ([], {}), b"{C/D}EF}": ([], {}), b"{C/D}{EF}": ([], {(2, BEAM): 1, (3, BEAM): 3}), b"{C{D/EF}GA}": ([], {}), b"{/CD}": ([], {(0, BEAM): 1, (1, BEAM): 3}),
+    b"!C/!": ([(17, 4)], {}), b"!C/D!": ([(17, 5)], {}), b"!C/D!f": ([(17, 5), (18, 6)], {}), b"!C!!D/E!f": ([(17, 8)], {}), b"!C/!D!E!f": ([(17, 4)], {}), b"!C!/f": ([], {}), b"!/C!f": ([], {}), b"!C/DEF!": ([(17, 7)], {}),
+    b"(=2)": ([(10, 4)], {}), b"!=2!": ([(17, 4)], {}), b"{=2CD}": ([], {}), b"{=C}": ([], {(0, BEAM): 1, (1, BEAM): 3}), b"=2(=)": ([], {(2, MARKS): 1}), b"@data:(C/D)\n@a:(": ([(2, 2), (10, 5)], {}),
+    "é(C/é)".encode(): ([(15, 1), (15, 5), (10, 6)], {}), b"@data:{(!C/D!)}": ([(17, 7), (10, 8)], {}),
+}
+
+
 def rest_texts():
     said = [a.replace("%s", rest) for a in (a.replace("%%", "%") for a in REST_AROUND) for rest in RESTS]
     return [t.encode() for t in said] + list(BY_HAND)
@@ -287,6 +306,14 @@ def rested(r):
     share = r.choice([0.1, 0.2, 0.4])
     rest = lambda: r.choice(["", "", " 4", " 8."]) + "=" + r.choice(["", "", "1", "2", "2", "3", "4", "02", "12", "0", "1001"])
     return spiced(r, "".join((rest() if r.random() < share else "") + token for token in TOKEN.findall(data_line(r))))
+
+
+def grouped(r):
+    """a line full of groups, beams and figures"""
+    mood = dict(letter=8, crossing=2, group=4, beam=3, figure=4, bar=4, tuplet=1, copied=1, rest=1, grace=1, joined=1, trill=1, repeat=1, blank=1)
+    mood["measure rest"] = r.choice([0, 0, 1])
+    kinds = list(mood)
+    return spiced(r, r.choice(["", "", "@data:"]) + "".join(TOKENS[k](r) for k in r.choices(kinds, list(mood.values()), k=r.choice([6, 10, 14, 20]))))
 
 
 # every text of one or two of these bytes
@@ -354,7 +381,72 @@ def has_rests(text):
     return data is not None and any(token[0] == "=" for token in TOKEN.findall(text[data[0]:data[1]]))
 
 
+def later(data):
+    """what is closed in a later bar: by place, the size of each sign that opens or counts, and the diagnostic due at each `)` and second `!`; rests of whole bars are written out"""
+    bars, chord = 0, False  # the stored ones; a `^` waits
+    bar, last_bar, figure = [], [], []  # of each record, whether a letter can join it
+    opened = {}  # by kind: the bar, its length at the start, the signs since none was open
+    signs, closings = {}, {}
+    for token in TOKEN.finditer(data):
+        name, place = token[0], token.start() + 1
+        kind = {")": "(", "}": "{"}.get(name, name[0])
+        if name in LETTERS:
+            bar += [] if chord and bar and bar[-1] else [True]
+            chord = False
+        elif name == "-":
+            bar.append(False)
+        elif name == "^":
+            chord = True
+        elif name in BARLINES and bar:
+            bars, bar, last_bar = bars + 1, [], bar
+        elif name == "f":
+            bar += figure
+        elif name == "i" and not bar:
+            bar += last_bar
+        elif name in ("(", "{") or name == "!" and kind not in opened:
+            opened[kind] = bars, len(bar), opened[kind][2] + [token] if kind in opened else [token]
+        elif kind == ";" and "(" in opened and name[1:] and int(name[1:]) < 256:
+            opened["("][2].append(token)
+        elif name in (")", "}", "!") and kind in opened:
+            own, start, since = opened.pop(kind)
+            if own != bars:
+                signs.update((t.start() + 1, len(t[0])) for t in since)
+                closings.update({place: {")": 10, "!": 17}[name]} if name != "}" else {})
+            elif name == "!":
+                figure = bar[start:]
+    return signs, closings
+
+
+def taken_out(data):
+    """the data without what is closed in a later bar, and the closings; a blank at its start would be trimmed, a `}` does nothing there"""
+    signs, closings = later(data)
+    characters = list(data)
+    for place, size in signs.items():
+        characters[place - 1:place - 1 + size] = ("}" if place == 1 else " ") + " " * (size - 1)
+    for place in closings:
+        characters[place - 1] = "?"
+    return "".join(characters), closings
+
+
+def closes_later(text):
+    """whether a group, beam or figure is closed in a later bar of the data that is read"""
+    said, _, _ = written(text)
+    return said != written_out(text)[0]
+
+
 def written(text):
+    """the text written out, with what is closed in a later bar taken out; the origins of its places; the closings"""
+    said, origins = written_out(text)
+    characters = decoded(said)
+    data = None if characters is None else data_of(characters)
+    if data is None:
+        return said, origins, {}
+    start, end = data
+    rewritten, closings = taken_out(characters[start:end])
+    return (characters[:start] + rewritten + characters[end:]).encode(), origins, closings
+
+
+def written_out(text):
     """the text with rests of whole bars written out as rests and barlines; of each place in its data, and of the one behind, the place in the text's data and whether such a rest stands there"""
     characters = decoded(text)
     data = None if characters is None else data_of(characters)
@@ -401,11 +493,11 @@ class Oracle:
 
 
 class Expectation:
-    """what the oracle's answers on a text, written out, and its prefixes say: where it can be refused, and the places of what is stored"""
+    """what the oracle's answers on a text, as it is asked (`written`), and its prefixes say: where it can be refused, and the places of what is stored"""
 
     def __init__(self, text, oracle):
         self.text, self.oracle = text, oracle
-        self.written, self.origins = written(text)
+        self.written, self.origins, self.closings = written(text)
         self.stops = []  # place, number, what must be lent (None: nothing helps), how many records of it
         self.places = []  # of each record: the places, written out, of the storing token, of its letters, of the token that first stored it
         self.felt = []  # the places, written out, of rests that cancel a tie or step a pattern of more than one length
@@ -417,7 +509,7 @@ class Expectation:
             self.stops = [(0, 4, None, 0)]
         elif data_of(self.characters) is None:
             self.stops = [(0, 5, None, 0)]
-        else:
+        elif self.same_form():
             self.follow()
         self.needed = {what: max([n for _, _, w, n in self.stops if w == what], default=0) for what in UNIT}
 
@@ -430,7 +522,16 @@ class Expectation:
         return self.origins[place - 1][1]
 
     def covered(self):
+        return self.same_form() and self.same_rests()
+
+    def same_rests(self):
+        """whether rests of whole bars, written out, do the same"""
         return self.text in BY_HAND or not any(map(self.is_rest, self.felt))
+
+    def same_form(self):
+        """whether the data stands where it stood: a line of a bare text may become a field when a sign before it is taken out"""
+        said = decoded(written_out(self.text)[0])
+        return said is None or data_of(said) == data_of(self.characters)
 
     def follow(self):
         start, end = data_of(self.characters)
@@ -468,10 +569,8 @@ class Expectation:
             if name == "!" and mark is None:
                 mark = opened
             elif name == "!":
-                if mark <= opened:
-                    figure = self.places[first + mark:]
-                    stop(11, "figure", len(figure))
-                mark = None
+                figure, mark = self.places[first + mark:], None
+                stop(11, "figure", len(figure))
             if name in BARLINES and opened:
                 last_bar, first = self.places[first:], len(self.places)
                 stop(12, "bars", len(self.oracle.records(cut, "B")))
@@ -504,13 +603,24 @@ class Expectation:
         return line + "".join(";B" + b for b in bars) + "".join(";D" + d for d in found)
 
     def found(self):
-        """the stored diagnostics; 99 is the oracle's number of d20"""
+        """the stored diagnostics; 99 is the oracle's number of d20, and its d15 at a closing that was taken out stands for d10 or d17"""
         lines = []
         for line in self.oracle.records(self.written, "D")[:STORED]:
             number, kind, place, value_kind, _, value = line.split(",")
+            due = self.closings.get(int(place)) if kind == "3" else None
+            assert due is None or number == "15", self.text
+            if due:
+                number, value_kind, value = (due, "2", b"()".hex()) if due == 10 else (due, "1", b"!".hex())
             place = str(self.at(int(place))) if kind == "3" else place
-            lines.append(",".join(["20" if number == "99" else number, kind, place, value_kind, "", value]))
+            lines.append(",".join(["20" if number == "99" else str(number), kind, place, value_kind, "", value]))
         return lines
+
+    def as_stated(self):
+        """whether diagnostics, beams, tuplets and marks are those of OVER_BARLINES"""
+        found, words = OVER_BARLINES[self.text]
+        notes = [["0"] + n.split(",") for n in self.oracle.records(self.written, "N")]
+        marked = {(i, w): int(n[w]) for i, n in enumerate(notes) for w in (BEAM, ACTUAL, MARKS) if n[w] != "0"}
+        return marked == words and [(int(d.split(",")[0]), int(d.split(",")[2])) for d in self.found()] == found
 
 
 class Case:
@@ -674,7 +784,7 @@ abbrev pub answer : List ℕ → ℕ → ℕ → ℕ → ℕ → ℕ → String
 answer text notes bars figure diagnostics looked = let r = read text notes bars figure diagnostics in storedShown text r ++ ";" ++ cellsShown looked r
 """
 
-# limits that need a long text or many cells: 65,536 bytes, 65,535 bytes, 131,071 notes, 100 and 1,000 bars; of malformed texts too
+# limits that need a long text or many cells: 65,536 bytes, 65,535 bytes, 131,071 notes, 100 and 1,000 bars; of malformed texts too; what is checked at a closing in its own bar alone
 LIMITS = [
     ("stored (replicate 65536 195) 0 0 0 0 0", "1,0,0,0,0"),
     ("stored (replicate 65535 195) 0 0 0 1023 0", "2,0,0,0,0"),
@@ -686,6 +796,10 @@ LIMITS = [
     ('stored (bytes "C=100") 4444 999 0 1024 0', "12,6,0,0,0"),
     ('stored (bytes "=1000") 88 20 0 1024 0', "8,1,0,0,0"),
     ('stored (bytes "=1000") 132 10 0 1024 0', "12,1,0,0,0"),
+    ('stored (bytes "!C/!") 44 10 0 1024 0', "0,0,1,1,1;N2,0,4,0,0,0,0,0,0,0,1,1,2,0,4,0;B0,1,1,1,0,0,0,0,0,0;D17,3,4,1,,21"),
+    ('stored (bytes "!/C!") 44 10 0 1024 0', "11,4,0,0,0"),
+    ('stored (bytes "(-/-tttttttt)") 88 20 0 1024 0', "0,0,2,2,1;N2,1,4,0,0,0,0,0,0,0,0,1;N4,1,4,0,0,0,0,0,8,255,0,2;B0,1,1,1,0,0,0,0,0,0;B1,1,0,0,0,0,0,0,0,0;D10,3,13,2,,2829"),
+    ('stored (bytes "-/(/-tttttttt)") 88 20 0 1024 0', "10,14,0,0,0"),
 ]
 
 
@@ -803,10 +917,14 @@ def main():
     texts = r.sample(texts, min(len(texts), given.count // 2))
     texts += [random_text(r) for _ in range(given.count - len(texts))] + MANY
     texts += rest_texts() + [rested(r) for _ in range(given.count // 8)]
+    texts += list(OVER_BARLINES) + [grouped(r) for _ in range(given.count // 8)]
     oracle = Oracle(given.oracle)
     oracle.ask(asked(texts))
-    cases = [Case(t, oracle, r) for t in texts if Expectation(t, oracle).covered()]
-    left_out = len(texts) - len(cases)
+    otherwise = [t for t in OVER_BARLINES if not Expectation(t, oracle).as_stated()]
+    assert not otherwise, "stated otherwise than the oracle's answer comes to: %r" % otherwise
+    expected = [Expectation(t, oracle) for t in texts]
+    cases = [Case(e.text, oracle, r) for e in expected if e.covered()]
+    left_out = sum(not e.same_rests() for e in expected), sum(not e.same_form() for e in expected)
     r.shuffle(cases)
     prepare()
     batches = [cases[i:i + given.batch] for i in range(0, len(cases), given.batch)]
@@ -820,7 +938,9 @@ def main():
         print("DIFFERS   %s\nexpected  %s" % LIMITS[i])
     numbers = Counter(c.number for c in cases)
     found = Counter(d for c in cases for d in c.found)
-    print("texts: %d, %d of them with rests of whole bars; left out: %d; different: %d" % (len(cases) + len(LIMITS), sum(has_rests(c.text) for c in cases), left_out, len(wrong) + len(limits)))
+    rests, crossing = (sum(map(which, (c.text for c in cases))) for which in (has_rests, closes_later))
+    print("texts: %d, %d of them with rests of whole bars, %d closing in a later bar; different: %d" % (len(cases) + len(LIMITS), rests, crossing, len(wrong) + len(limits)))
+    print("left out: %d for `=`, %d that close in a later bar and become a field form without it" % left_out)
     print("accepted: %d; refused: %s" % (numbers[0], ", ".join("%d: %d" % (n, numbers[n]) for n in sorted(numbers) if n)))
     print("diagnostics: " + ", ".join("d%d: %d" % (d, found[d]) for d in range(1, 21)))
     sys.exit(1 if wrong or limits else 0)

@@ -8,10 +8,11 @@ give the same bytes: crates/vectors/stdin, the list, and crates/vectors/stdout, 
 crates/vectors/README.md has the list's format.
 
 The texts: every kind of token after every other, in six surroundings; fields, keys, meters, clefs and counts; every
-diagnostic with its values; the limits that fit a line; texts written out for one rule each; every blank, what is taken
-for one and characters of two to four bytes, at the places where they matter; random ones. A text that the program's
-buffers, or the words and refusals that document 01 adds to the Rust, would stop isn't taken, nor is one with an `=` token,
-which document 02 reads otherwise than the Rust.
+diagnostic but d10, d17 and d20 with its values; the limits that fit a line; texts written out for one rule each; every
+blank, what is taken for one and characters of two to four bytes, at the places where they matter; random ones. A text
+that the program's buffers, or the words and refusals that document 01 adds to the Rust, would stop isn't taken, nor is
+one with an `=` token or one that closes a group, beam or figure in a later bar, which document 02 reads otherwise than
+the Rust. Only these have d10, d17 and d20.
 """
 import argparse
 import os
@@ -31,7 +32,7 @@ import definitions as d
 # what crates/vectors/src/main.rt lends, and the list's size there
 LENT = dict(notes=1024 * d.NOTE, bars=512 * d.BAR, figure=512 * d.NOTE, diagnostics=1024)
 LIST = 1048576
-RANDOM = 1300
+RANDOM = 1400
 
 # ---- pairs of tokens
 
@@ -41,12 +42,13 @@ AROUND = [("4C", "FC/C"), ("", "C^F/FC"), ("86!xFC!", "fF/iF"), ("{(C", "FDE)}/F
 
 
 def pairs():
+    """each in a surrounding, by turns; where that would close what it opened in a later bar, in the one behind"""
     count = 0
     for a in TOKENS:
         for b in TOKENS:
-            before, after = AROUND[count % len(AROUND)]
+            around = [AROUND[(count + more) % len(AROUND)] for more in range(2)]
             count += 1
-            yield before + a + b + after
+            yield next(text for text in (before + a + b + after for before, after in around) if not d.closes_later(text.encode()))
 
 
 # ---- values and limits
@@ -102,8 +104,8 @@ LIMITS = [
 DIAGNOSTICS = [
     "hello\n@data:C", "  two words \n@data:C", "@data:C\n\nx", "@title:a b\n@data:C", "@Data:x\n@data:C", " @a: \n@data:C", "C%F-4D", "C$bB D", "C@c D", "C%D", "C$D", "C@ D",
     "%G+2C", "%C+4C/%F+4D", "%x+yC", "%?C", "%G-3C", "%---C", "@clef:\n@data:C", "@clef:a b\n@data:C", "$xG C", "$n C", "$FC", "@keysig:?\n@data:C", "@3/3C", "@c.C", "@C",
-    "@timesig:3 4\n@data:C", "''''''''C", ",,,,,C", "C:C", ":C", "C:/D", "C(/)D", "CD(/E)", "(CD;2)", "(C;0)", "(C;1)", "(C;2)D", ";3C", "(C;)", "(C;256)", "(C;1000)D", "C)", ")C", "(C))",
-    "tC", "C/tD", "?C", "rC", "zC", "C.", "\x00C", "C\x7f", "C\\D", "C\"", "+C", "-+C", "C/+D", "C!/!D", "CD!/E!f", "fC", "C!!fD", "iC", "C/DiE", "C/i/ii",
+    "@timesig:3 4\n@data:C", "''''''''C", ",,,,,C", "C:C", ":C", "C:/D", "(CD;2)", "(C;0)", "(C;1)", "(C;2)D", ";3C", "(C;)", "(C;256)", "(C;1000)D", "C)", ")C", "(C))",
+    "tC", "C/tD", "?C", "rC", "zC", "C.", "\x00C", "C\x7f", "C\\D", "C\"", "+C", "-+C", "C/+D", "fC", "C!!fD", "iC", "C/DiE", "C/i/ii",
 ]
 RULES = [
     # octaves, accidentals, keys
@@ -128,16 +130,19 @@ RULES = [
     "C%F-4%G-2/D", "%g-2C/%C-1C/%C-2C/%C-3C/%C-4C/%C-5C/%G-2C", "%G+2C/%g+2C/%F+4C/%C+1C/%C+2C/%C+3C/%C+4C/%C+5C", "%%F-4C", "%/C", "%G -2C", "%G-22C", "%G-2", "C/%F-4", "C/i%F-4D", "/%F-4C", "C/%F-4i", "C/$xF i F", "!F!/$xF f F",
     "C/@3/4i/i",
     # figures
-    "!CD!f", "!CD!ff", "!C!Df", "!C!f/f", "!C/D!f", "C!/!", "C!D/E!f", "!!f", "!C!!f", "!C!!!f", "!D!!/!f", "C!/!!", "B!/!C!f", "!C!tf", "!Ct!f", "!gC!f", "!8.C!6fD", "!{CD}!f", "!(CDE)!f", "{!CD!f}", "(!CD!f)", "!C-D!f", "!xC!nCf",
+    "!CD!f", "!CD!ff", "!C!Df", "!C!f/f", "!!f", "!C!!f", "!C!!!f", "!C!tf", "!Ct!f", "!gC!f", "!8.C!6fD", "!{CD}!f", "!(CDE)!f", "{!CD!f}", "(!CD!f)", "!C-D!f", "!xC!nCf",
     "!C^E!f^G", "!C!f!f", "C!D!fE/f", "!C!!D!f", "!C!f!!f", "C/i", "C/D/i", "C/ /i", "C/i/i", "CD/i/E/i", "Ci", "i", "C/Di", "-/i", "C/ii", "C/if", "!C!/i", "!CD!/Ef/i", "C//:i", "C://i", "{CD}/i", "(CDE)/i", "Ct/i", "gC/i", "8.C/i",
-    "C+C/i", "!C/!f", "!/C!f", "C!-!f", "!CDE!f/!i!ff", "C!D!!E!f", "!C!-f", "!f!", "!i!", "C/!i!f", "C/!i/!f", "!CD/!E!f/f", "ABC/!D!/i", "!A!B!C!f/f", "!C", "C!/D!f", "CD!/E!f", "CD!/EFG!f", "!CD!{f}", "!CD!(f)", "!D!C!/!fE", "!CD!E!/!f/f", "A!B!C!/!Df", "!A!C!/D!f", "!C!f+D", "!C!f+f",
+    "C+C/i", "!/C!f", "C!-!f", "!CDE!f/!i!ff", "C!D!!E!f", "!C!-f", "!f!", "!i!", "C/!i!f", "ABC/!D!/i", "!A!B!C!f/f", "!C", "!CD!{f}", "!CD!(f)", "!C!f+D", "!C!f+f",
+    "!C!/f/f", "!C/D", "!C!!D/f", "C/!/!D", "C/!/D!f", "C/!//D!:f", "//:!/C!f/f", "!//:C!f", "C/!/i!f", "C/!i!/f", "!C:D!f", "!/!f/C",
     # beams
-    "{CD}", "{CDE}", "{C}", "{}C", "{C-D}", "{-}", "{gCD}", "{CgDE}", "{CqqDErF}", "{C/DE}", "{/CD}", "C{D/E}", "CD{E/FG}", "{C{DE}", "{C}D}", "}CD", "C{DE}F{GA}", "{C}{D}", "{(CDE)}", "{CD", "{-C}", "{C-}", "{--}", "{gC}", "{gCqD}",
-    "{C^DE}", "CD{EF", "CDE{F/GAB}", "{CD}}", "C}DE{F}", "{C}DE}", "{CDEF}/i", "{CD/E}",
+    "{CD}", "{CDE}", "{C}", "{}C", "{C-D}", "{-}", "{gCD}", "{CgDE}", "{CqqDErF}", "{/CD}", "{C{DE}", "{C}D}", "}CD", "C{DE}F{GA}", "{C}{D}", "{(CDE)}", "{CD", "{-C}", "{C-}", "{--}", "{gC}", "{gCqD}",
+    "{C^DE}", "CD{EF", "{CD}}", "C}DE{F}", "{C}DE}", "{CDEF}/i",
+    "{CD/E", "{C/{DE}", "C/{/DE}", "C/{//:DE}F", "{///CD}", "C/D/{/i}", "CD/{i}", "CD/{/iE}", "{C:D}", "{/}CD}",
     # groups
-    "(CDE)", "(CD)", "(C)", "(-)", "(C-)", "()C", "(gC)", "(gCD)", "(CqD)", "(-qC)", "(C/D)", "C(/)", "C(D/E)", "CD(/E)", "(/)C", "(/CDE)", "(C(DE)", "(C)D)", "(CDEFG;5)", "(CD;2)", "(CD;3)", "(CD;4)", "(CD;255)", "(CD;256)", "(C;3)",
+    "(CDE)", "(CD)", "(C)", "(-)", "(C-)", "()C", "(gC)", "(gCD)", "(CqD)", "(-qC)", "(/)C", "(/CDE)", "(C(DE)", "(C)D)", "(CDEFG;5)", "(CD;2)", "(CD;3)", "(CD;4)", "(CD;255)", "(CD;256)", "(C;3)",
     "(C;4;5)", "(C;4;)", "(;4(C)", "(CD;5(EF)", "(C;4(DE)F", "(;5(C)D", "(;4/C)", "(CD;5;256)E", "(CDE;4;;)", "(C;5;)D", "(C;03)", "(CDE;4)", "(CDE;7)", "(CDE;8)", "(CDE;9)", "(CDE;17)", "C;3D", "(C);3", "(;3)C", "(CD)(EF;4)", "((CD))", "g(CDE)", "(C^D)", "(Ct)", "(C)t", "(C)(C)", "(C)/i", "(gC;3)D", "(gC;1)D",
-    "(C;1D)", "(CDE;0)", "C(D)E", "CD(EF)/(G)", "(-;3)", "(--)", "(-;1)", "(C-qD)", "(CD;5)/(EF)", "(CD;5)(EF)", "(C)D(E)", "(CD)t", "AB(C/DE)", "A(BC/DE)F", "(AB/C)D", "(;5)(CD)", "(;256CD)", "(;CD)", "(CD;a)", "(C D E ; 5)",
+    "(C;1D)", "(CDE;0)", "C(D)E", "CD(EF)/(G)", "(-;3)", "(--)", "(-;1)", "(C-qD)", "(CD;5)/(EF)", "(CD;5)(EF)", "(C)D(E)", "(CD)t", "(;5)(CD)", "(;256CD)", "(;CD)", "(CD;a)", "(C D E ; 5)",
+    "(C/D", "(C/(D)", "(C;5/(DE)", "(C/(D;5E)", "C/(/D)", "C/(/)D", "C/(//:DE)F", "(///C)", "(//:CDE;5)", "(/;5CD)", "(;5/CD)", "C/D/(i)", "CD/(/i)", "(C:D)", "(/C)/(/D)", "(/)/(C)",
     # trills
     "Ct", "Ctt", "-t", "C/t", "C/tDt", "gCt", "C^Et", "Ct/i", "!Ct!ft", "(Ct)t", "C t", "t", "Ct^E", "C+t", "Ct+C", "Ct-t", "C/it",
     # blanks and unknown tokens
@@ -157,8 +162,8 @@ BLANK_AROUND = ["%s", "%sC%sD?", "8%s6.%s{CD}x%sF%s:", "%%G%s-2C/%%F-4%sD", "%%%
 WIDE_AROUND = ["%sC", "C%sD?", "x%sF8%s6{CD}", "%%%s+%sC", "%%%s%s%sC", "%%G-2%sC", "$%sC", "@3/4%sC", "C/%s!DE!%sf", "@title:%s\n@clef:%s\n@keysig:xF%s\n@timesig:%s\n@data:%sF%s", "@t%stle:x\n@data:C%s"]
 CHARACTERS = [
     # places behind them: notes, chords, figures, bars, groups
-    "éC^éEé^G", "é!Cé!fé/éi?", "漢C/漢D//漢E?", "(éC漢D𝄞E)t)", "{éCéDé}é)", "éCé+éCé+?", "éqqCéDérE?", "ü8.6CüDüEü'F", "é,,,,,,C", "é%é C%éD", "é$xé FéF", "é@3/é4C", "é:C:é//:D:", "éC(/é)", "(éCD;é2)", "(éCD;2)é",
-    "é;3C", "éfC", "éiC", "éC/éDéié", "Cé!/é!D", "étC", "é+C", "érC", "e\u0301C", "\u0301", "é", "é漢𝄞", "éé=\n@data:C", "éC\u00a0\u3000", "é" * 300 + "C?", "漢C" * 40 + "?", "\u00a0" * 200 + "C" + "\u3000" * 200 + "?",
+    "éC^éEé^G", "é!Cé!fé/éi?", "漢C/漢D//漢E?", "(éC漢D𝄞E)t)", "{éCéDé}é)", "éCé+éCé+?", "éqqCéDérE?", "ü8.6CüDüEü'F", "é,,,,,,C", "é%é C%éD", "é$xé FéF", "é@3/é4C", "é:C:é//:D:", "é(/éC)", "(éCD;é2)", "(éCD;2)é",
+    "é;3C", "éfC", "éiC", "éC/éDéié", "é!/éC!éf", "étC", "é+C", "érC", "e\u0301C", "\u0301", "é", "é漢𝄞", "éé=\n@data:C", "éC\u00a0\u3000", "é" * 300 + "C?", "漢C" * 40 + "?", "\u00a0" * 200 + "C" + "\u3000" * 200 + "?",
     # clefs of three characters
     "%é+üC", "%é-üC", "%+é+C", "%++éC", "%é++C", "%漢+字C/%𝄞+𝄞D", "%éG-2C", "%Gé2C", "%G-éC", "%é", "%é+", "%éé C", "%é\u00a0+C", "%G-2éC", "%G+2éC", "C%é+üD", "%é+ü%F-4C", "%éüïC", "%" + "é" * 50 + "C", "%" + "漢" * 50 + " C",
     # fields
@@ -210,7 +215,7 @@ def answer(text, number, oracle):
 
 def taken(texts, oracle):
     """the texts that the program can be held to, each once, with the refusal's number"""
-    texts = [t for t in dict.fromkeys(texts) if d.decoded(t) is not None and not d.has_rests(t)]
+    texts = [t for t in dict.fromkeys(texts) if d.decoded(t) is not None and not d.has_rests(t) and not d.closes_later(t)]
     oracle.ask(d.asked(texts))
     for text in texts:
         number, _ = d.Expectation(text, oracle).refusal(LENT)

@@ -1,5 +1,5 @@
-/* The library from C: the thirteen proved lines, rests of whole bars, characters beyond ASCII, refusals
- * over poisoned buffers, little lent, and cards written and read back. */
+/* The library from C: the thirteen proved lines, rests of whole bars, groups over bars, characters beyond
+ * ASCII, refusals over poisoned buffers, little lent, and cards written and read back. */
 #include "pae.h"
 
 #include <stdio.h>
@@ -200,6 +200,20 @@ static void whole_bars(void) {
     read_lent("/=3", PAE_NOTE_WORDS, PAE_BAR_WORDS, 0, PAE_DIAGNOSTIC_CELLS);
     CHECK(refused(PAE_REFUSED_NOTE_RECORDS, 2));
     CHECK(rest_is_clear(PAE_NOTE_WORDS, PAE_BAR_WORDS, 0, PAE_DIAGNOSTIC_CELLS));
+}
+
+/* Groups, beams and figures that are closed in a later bar, and a barline in an empty one. */
+static void over_bars(void) {
+    read_line("C(D/EFG)");
+    CHECK(counts(5, 2, 1) && only_diagnostic(PAE_D_GROUP_OVER_BARLINE, 8));
+    CHECK(cells[0].value_kind == PAE_VALUE_GROUP && word(4, PAE_NOTE_TUPLET_ACTUAL) == 0);
+    read_line("{C/DE}");
+    CHECK(counts(3, 2, 0) && word(1, PAE_NOTE_BEAM) == PAE_BEAM_NONE);
+    read_line("!C!!D/E!f");
+    CHECK(counts(4, 2, 1) && only_diagnostic(PAE_D_FIGURE_OVER_BARLINE, 8));
+    CHECK(word(3, PAE_NOTE_PLACE) == 9 && pitch(3, PAE_PITCH_PLACE) == 2);
+    read_line("(/CDE)");
+    CHECK(counts(3, 1, 0) && word(2, PAE_NOTE_TUPLET_ACTUAL) == 3);
 }
 
 /* The offset of the character at a data place, as pae.h has it. */
@@ -426,6 +440,7 @@ int main(void) {
     diagnosed();
     refused_line();
     whole_bars();
+    over_bars();
     characters();
     malformed();
     nothing_lent();

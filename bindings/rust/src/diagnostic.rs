@@ -26,7 +26,7 @@ words_enum! {
         UnsupportedOctave = 8,
         /// d9: a lone `:`.
         UnsupportedBarline = 9,
-        /// d10: a `)` in a bar shorter than the group's start; the value is `()`.
+        /// d10: a `)` of a group opened in an earlier bar; nothing is made of it. The value is `()`.
         GroupOverBarline = 10,
         /// d11: a tuplet's count below 3; the value is the count.
         SmallTuplet = 11,
@@ -40,7 +40,7 @@ words_enum! {
         UnsupportedToken = 15,
         /// d16: a tie that follows no note of its bar.
         TieWithoutNote = 16,
-        /// d17: a closing `!` in a bar shorter than the figure's start.
+        /// d17: a closing `!` of a figure opened in an earlier bar; the figure before it stays.
         FigureOverBarline = 17,
         /// d18: an `f` without a figure.
         RepeatWithoutFigure = 18,
@@ -78,7 +78,7 @@ impl DiagnosticKind {
         }
     }
 
-    /// The reason in words, as in acorde.
+    /// The reason in words, as in acorde but for d10 and d17: acorde's say 'crossing a barline'.
     pub fn reason(self) -> &'static str {
         match self {
             Self::UnsupportedLine => "line is not a PAE field",
@@ -93,7 +93,7 @@ impl DiagnosticKind {
             Self::UnsupportedOctave => "octave mark is out of range",
             Self::UnsupportedBarline => "barline is outside the supported subset",
             Self::GroupOverBarline => {
-                "a fermata or tuplet group crossing a barline is not imported"
+                "a fermata or tuplet group opened in an earlier bar is not imported"
             }
             Self::SmallTuplet => "tuplets need at least three notes",
             Self::TupletCount => "tuplet count must follow ';' inside parentheses",
@@ -101,7 +101,7 @@ impl DiagnosticKind {
             Self::TrillWithoutNote => "a trill must follow a note in the same bar",
             Self::UnsupportedToken => "PAE token is outside the supported subset",
             Self::TieWithoutNote => "a tie must follow a note in the same bar",
-            Self::FigureOverBarline => "a repeated figure crossing a barline is not imported",
+            Self::FigureOverBarline => "a repeated figure opened in an earlier bar is not imported",
             Self::RepeatWithoutFigure => "'f' needs a preceding !…! figure",
             Self::RepeatInsideBar => "'i' repeats a whole previous bar and must start a bar",
             Self::WholeBarCount => "multi-measure rest count is out of range",

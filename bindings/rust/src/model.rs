@@ -88,7 +88,8 @@ words_enum! {
 }
 
 words_enum! {
-    /// A note's part in a beam.
+    /// A note's part in a beam. A beam closed in a later bar than it was opened in is none; no
+    /// diagnostic says so.
     BeamState, "beam" {
         /// None.
         None = 0,

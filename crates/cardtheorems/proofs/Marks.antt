@@ -6,12 +6,12 @@ use mathlib.Core.Option.{Option, none, some, Option·getD}
 use mathlib.Core.List.{List, [], _∷_}
 use native.Mathlib.Omega.{arith}
 use borrow.Author.Tests.{ltb-false, le-leb}
-use lib.ListN.{length, take}
+use lib.ListN.{take}
 use lib.Dec.{eqb, ltb}
 use Rattle.rules.specs.Limits.{countLimit}
 use Rattle.rules.specs.Tokens.{Marking, beamOpen, beamClose, groupOpen, groupClose, tie, trill, groupCount, Token, markingIn}
 use Rattle.rules.specs.Records.{Notations, Note}
-use Rattle.rules.specs.Rules.{endsInNote, isNonGrace, nonGraceIn, notesFrom, withTieStart, withBeam, withMark, Closing, nothing, fermata, tuplet, tooFew, tupletOf, closing, closed, closingOf, beamClosed, marked, notationsNext, withNotations, Group, State}
+use Rattle.rules.specs.Rules.{Start, endsInNote, isNonGrace, nonGraceIn, countFrom, notesFrom, withTieStart, withBeam, withMark, Closing, nothing, fermata, tuplet, tooFew, tupletOf, closing, closed, closingOf, beamClosed, marked, notationsNext, withNotations, Group, State}
 use Rattle.rules.specs.Agreement.{All}
 use Rattle.theorems.proofs.Lists.{cond-ind, given-ind}
 use Rattle.card.specs.Fields.{between}
@@ -64,20 +64,20 @@ tie-in d g = record { beam = g .beam; actual = g .actual; normal = g .normal }
 mark-in : (m : Bool) (d : Notations) → NotationsIn d → NotationsIn (withMark m d)
 mark-in m d g = record { beam = g .beam; actual = g .actual; normal = g .normal }
 
-beam-closed-in : (start : ℕ) (s : State) (later : ℕ) (n : Note) → NotationsIn (n .notations) → NotationsIn (beamClosed start s later n)
+beam-closed-in : (start : Start) (s : State) (later : ℕ) (n : Note) → NotationsIn (n .notations) → NotationsIn (beamClosed start s later n)
 beam-closed-in start s later n g =
-    let all : ℕ = nonGraceIn (notesFrom start (s .openBar)) in
+    let all : ℕ = nonGraceIn (notesFrom start s) in
     let after : ℕ = nonGraceIn (take later (s .openBar)) in
     let which : ℕ = cond (eqb after 0) 3 (cond (eqb (suc after) all) 1 2) in
     let few : which ≤ 3 = cond-ind (λ (b : ℕ). b ≤ 3) (eqb after 0) (omega arith) (cond-ind (λ (b : ℕ). b ≤ 3) (eqb (suc after) all) (omega arith) (omega arith)) in
-    cond-ind NotationsIn (isNonGrace n && ltb later (length (s .openBar) - start) && ltb 1 all) (beam-in which (n .notations) few g) g
+    cond-ind NotationsIn (isNonGrace n && ltb later (countFrom start s) && ltb 1 all) (beam-in which (n .notations) few g) g
 
 marked-in : (m : Marking) (s : State) → IfSome GroupIn (s .group) → (later : ℕ) (n : Note) → NotationsIn (n .notations) → NotationsIn (marked m s later n)
 marked-in beamOpen s h later n g = g
 marked-in beamClose s h later n g = given-ind NotationsIn (s .beamStart) g (λ start. beam-closed-in start s later n g)
 marked-in groupOpen s h later n g = g
 marked-in groupClose s h later n g = given-in GroupIn NotationsIn (s .group) h g
-    (λ o i. cond-ind NotationsIn (isNonGrace n && ltb later (length (s .openBar) - o .start)) (closed-in (closingOf o s) (n .notations) (closing-in (nonGraceIn (notesFrom (o .start) (s .openBar))) (o .count) i) g) g)
+    (λ o i. cond-ind NotationsIn (isNonGrace n && ltb later (countFrom (o .start) s)) (closed-in (closingOf o s) (n .notations) (closing-in (nonGraceIn (notesFrom (o .start) s)) (o .count) i) g) g)
 marked-in tie s h later n g = cond-ind NotationsIn (eqb later 0 && endsInNote (s .openBar)) (tie-in (n .notations) g) g
 marked-in trill s h later n g = cond-ind NotationsIn (eqb later 0) (mark-in true (n .notations) g) g
 marked-in (groupCount c) s h later n g = g

@@ -8,12 +8,12 @@ use native.Mathlib.Omega.{arith}
 use borrow.Author.Tests.{not-true, lt-ltb}
 use lib.IntN.{pos}
 use lib.ListN.{length, getD}
-use lib.Dec.{eqb, leb}
+use lib.Dec.{eqb}
 use Rattle.rules.specs.Limits.{octaveLimit}
 use Rattle.rules.specs.Values.{treble, quarter, Clef}
 use Rattle.rules.specs.Tokens.{Figure, figureMark, figureRepeat, barRepeat, Marking, beamOpen, beamClose, groupOpen, groupClose, tie, trill, groupCount, Token, Item, clefIn, keyIn, meterIn, octaveIn, durationIn, accidentalIn, letterIn, isRest, isBarline, rightIn, leftIn, figureIn, markingIn, wholeBarsIn}
 use Rattle.rules.specs.Records.{_or_, isSome, isEmpty, isRestKind, Pitch, Note, Bar}
-use Rattle.rules.specs.Rules.{fresh, attributeNext, clefGiven, fifthsGiven, meterGiven, leftNext, finished, close, alterOf, pitchOf, accidentalsNext, endsInNote, joins, opens, kindOf, lengthOf, heading, nextValue, copied, repeatedBar, repeated, figureNext, plain, openedNote, restNote, wholeBarRest, stores, addPitch, joined, withNotations, notationsNext, counted, groupNext, openBarNext, step, furtherBars, innerBarline, stateAfter, barsAtEnd, Accidentals, Group, State, Attributes}
+use Rattle.rules.specs.Rules.{fresh, inItsBar, countFrom, attributeNext, clefGiven, fifthsGiven, meterGiven, leftNext, finished, close, alterOf, pitchOf, accidentalsNext, endsInNote, joins, opens, kindOf, lengthOf, heading, nextValue, copied, repeatedBar, repeated, figureNext, plain, openedNote, restNote, wholeBarRest, stores, addPitch, joined, withNotations, notationsNext, counted, groupNext, openBarNext, step, furtherBars, innerBarline, stateAfter, barsAtEnd, Accidentals, Group, State, Attributes}
 use Rattle.rules.specs.Agreement.{All}
 use Rattle.text.proofs.BoolLaws.{both}
 use Rattle.theorems.proofs.Lists.{cond-ind, cond-case, given-ind, all-imp, all-++, all-map, all-take}
@@ -103,7 +103,7 @@ module _ (s : State) (h : StateIn s) where
   repeated-in barRepeat = last-in (s .openBar) (s .bars) (h .bars)
 
   figure-in : (f : Figure) → All NoteIn (figureNext f s)
-  figure-in figureMark = given-ind (All NoteIn) (s .figureStart) (h .figure) (λ start. cond-ind (All NoteIn) (leb start (length (s .openBar))) (all-take NoteIn (length (s .openBar) - start) (s .openBar) (h .openBar)) (h .figure))
+  figure-in figureMark = given-ind (All NoteIn) (s .figureStart) (h .figure) (λ start. cond-ind (All NoteIn) (inItsBar start s) (all-take NoteIn (countFrom start s) (s .openBar) (h .openBar)) (h .figure))
   figure-in figureRepeat = h .figure
   figure-in barRepeat = h .figure
 

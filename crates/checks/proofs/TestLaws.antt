@@ -23,10 +23,10 @@ use Rattle.records.proofs.GroupLaws.{last-below, timed-below}
 use Rattle.limits.specs.declared.Voice.{Voice}
 use Rattle.limits.specs.declared.Counts.{Counts}
 use Rattle.limits.specs.declared.Groups.{Groups}
-use Rattle.steps.specs.State.{hasContent, openLength, repeatedCount}
+use Rattle.steps.specs.State.{hasContent, openLength, repeatedCount, reaches, Reached, cellsFrom, countFrom}
 use Rattle.steps.specs.Notes.{endsOf, joinsOf}
 use Rattle.steps.specs.Relation.{countIn}
-use Rattle.checks.specs.Checks.{failing, groupCells, groupSize, groupTimed, fermataCheck, groupCheck}
+use Rattle.checks.specs.Checks.{failing, groupTimed, groupCheck}
 
 pub and-first : (a b : Bool) → a && b ≡ true → a ≡ true
 and-first true b e = refl
@@ -80,34 +80,32 @@ last-inside l n e h = rw e (last-below l n n (omega arith) h)
 
 module _ (g : Groups) (c : Counts) (l : List ℤ) where
   abbrev part : List ℤ
-  part = groupCells g c l
+  part = cellsFrom (g .paren) c l
 
   abbrev size : ℕ
-  size = groupSize g c
+  size = countFrom (g .paren) c
 
-  -- the open group's records by whether there is one
-  abbrev timedIf : Bool → Timed
-  timedIf noted = cond noted (record { count = timedCount part size; last = lastNonGrace part size }) (record { count = 0; last = 0 })
+  -- a group of some records is closed in its bar
+  some-reached : Reached (g .paren) c → 0 < size → g .paren .from + size ≡ openLength c
+  some-reached h k = go (reaches (g .paren) c) refl k
+    where
+      go : (b : Bool) → reaches (g .paren) c ≡ b → 0 < cond b (openLength c - g .paren .from) 0 → g .paren .from + cond b (openLength c - g .paren .from) 0 ≡ openLength c
+      go true e k = omega (arith, h e)
+      go false e k = absurd (omega arith)
 
   -- a group that closes to a fermata has its record in the open bar
-  pub fermata-inside : (count : Option ℕ) {timed : Timed} → timed ≡ groupTimed g c l → isFermata (closing (timed .count) count) ≡ true → g .paren .length + timed .last < openLength c
-  fermata-inside count e f = subst (λ (t : Timed). g .paren .length + t .last < openLength c) (sym e) (go (g .paren .noted) (subst (λ (t : Timed). isFermata (closing (t .count) count) ≡ true) e f))
-    where
-      go : (noted : Bool) → isFermata (closing (timedIf noted .count) count) ≡ true → g .paren .length + timedIf noted .last < openLength c
-      go true f = let some = fermata-some (timedCount part size) count f in omega (arith, last-inside part size refl (omega (arith, timed-below part size)))
-      go false f = absurd (false≢true f)
+  pub fermata-inside : Reached (g .paren) c → (count : Option ℕ) {timed : Timed} → timed ≡ groupTimed g c l → isFermata (closing (timed .count) count) ≡ true → g .paren .from + timed .last < openLength c
+  fermata-inside h count e f =
+      let many : 0 < timedCount part size = fermata-some (timedCount part size) count (subst (λ (t : Timed). isFermata (closing (t .count) count) ≡ true) e f) in
+      let some : 0 < size = omega (arith, many, timed-below part size) in
+      subst (λ (t : Timed). g .paren .from + t .last < openLength c) (sym e) (omega (arith, last-inside part size refl some, some-reached h some))
 
   -- the check of a group, by whether it closes to a fermata
   pub group-checked : {timed : Timed} → timed ≡ groupTimed g c l → (b : Bool) → isFermata (closing (timed .count) (countIn (g .count))) ≡ b
       → groupCheck g c l ≡ failing (b && leb markCapacity (numberAt markCountAt (recordAt noteSize part (timed .last)))) 10
   group-checked e b f =
       subst (λ (t : Timed). groupCheck g c l ≡ failing (b && leb markCapacity (numberAt markCountAt (recordAt noteSize part (t .last)))) 10) (sym e)
-      (go (g .paren .noted) (subst (λ (t : Timed). isFermata (closing (t .count) (countIn (g .count))) ≡ b) e f))
-    where
-      go : (noted : Bool) → isFermata (closing (timedIf noted .count) (countIn (g .count))) ≡ b
-          → cond noted (fermataCheck part size (g .count)) 0 ≡ failing (b && leb markCapacity (numberAt markCountAt (recordAt noteSize part (timedIf noted .last)))) 10
-      go true f = ap (λ (x : Bool). failing (x && leb markCapacity (numberAt markCountAt (recordAt noteSize part (lastNonGrace part size)))) 10) f
-      go false f = ap (λ (x : Bool). failing (x && leb markCapacity (numberAt markCountAt (recordAt noteSize part 0))) 10) f
+      (ap (λ (x : Bool). failing (x && leb markCapacity (numberAt markCountAt (recordAt noteSize part (lastNonGrace part size)))) 10) (subst (λ (t : Timed). isFermata (closing (t .count) (countIn (g .count))) ≡ b) e f))
 
 -- ---- cells
 

@@ -1,9 +1,8 @@
 -- The checks at a token (01's table, 7 to 12) and at the end (12, 13) over the program's values and cells: the number of the first that fails, 0 where none does. Assumes nothing.
-use Prim.Native.Nat.{ℕ, _+_, _-_, _*_}
+use Prim.Native.Nat.{ℕ, _+_}
 use mathlib.Core.Bool.{Bool, cond, _&&_}
 use mathlib.Core.List.{List}
 use lib.IntN.{ℤ}
-use lib.ListN.{drop}
 use lib.Dec.{leb, ltb, eqb}
 use Rattle.rules.specs.Limits.{noteLimit, noteSize, pitchCapacity, markCapacity}
 use Rattle.rules.specs.Rules.{closing}
@@ -21,7 +20,7 @@ use Rattle.decode.specs.declared.Marking.{Marking}
 use Rattle.decode.specs.declared.Marking.the-variants as m
 use Rattle.decode.specs.declared.Token.{Token}
 use Rattle.decode.specs.declared.Token.the-variants as t
-use Rattle.steps.specs.State.{hasContent, openLength, repeatedCount, figureClosed}
+use Rattle.steps.specs.State.{hasContent, cellsFrom, countFrom, repeatedCount}
 use Rattle.steps.specs.Notes.{lastField}
 use Rattle.steps.specs.Relation.{countIn}
 use Rattle.checks.specs.declared.Room.{Room}
@@ -53,7 +52,7 @@ endCheck c lent characters = cond (hasContent c && leb lent (c .bars)) (record {
 
 -- the closing `!`: 11, the figure passes the lent figure records
 abbrev pub markCheck : Groups → Counts → ℕ → ℕ
-markCheck g c lent = failing (ltb lent (figureClosed g (openLength c) 0)) 11
+markCheck g c lent = failing (ltb lent (countFrom (g .figure) c)) 11
 
 -- `f`, `i`: 7, 8
 abbrev pub figureCheck : Figure → Pae → Room → ℕ
@@ -77,21 +76,14 @@ fermataRecord part size = recordAt noteSize part (lastNonGrace part size)
 abbrev pub fermataCheck : List ℤ → ℕ → ℕ → ℕ
 fermataCheck part size count = failing (isFermata (closing (timedCount part size) (countIn count)) && leb markCapacity (numberAt markCountAt (fermataRecord part size))) 10
 
--- the cells from the open group's start on, and how many of the open bar's records stand there
-abbrev pub groupCells : Groups → Counts → List ℤ → List ℤ
-groupCells g c cells = drop ((c .first + g .paren .length) * noteSize) cells
-
-abbrev pub groupSize : Groups → Counts → ℕ
-groupSize g c = openLength c - g .paren .length
-
--- the open group's non-grace records, if there is one: how many, and the number of the last
+-- the open group's non-grace records: how many, and the number of the last
 abbrev pub groupTimed : Groups → Counts → List ℤ → Timed
-groupTimed g c cells = let part = groupCells g c cells in let size = groupSize g c in
-    cond (g .paren .noted) (record { count = timedCount part size; last = lastNonGrace part size }) (record { count = 0; last = 0 })
+groupTimed g c cells = let part = cellsFrom (g .paren) c cells in let size = countFrom (g .paren) c in
+    record { count = timedCount part size; last = lastNonGrace part size }
 
--- `)`: the open group, if there is one
+-- `)`: the open group
 abbrev pub groupCheck : Groups → Counts → List ℤ → ℕ
-groupCheck g c cells = cond (g .paren .noted) (fermataCheck (groupCells g c cells) (groupSize g c) (g .count)) 0
+groupCheck g c cells = fermataCheck (cellsFrom (g .paren) c cells) (countFrom (g .paren) c) (g .count)
 
 abbrev pub markingCheck : Marking → Pae → List ℤ → ℕ
 markingCheck marking st cells = elim marking [ m.BeamOpen ↦ 0 | m.BeamClose ↦ 0 | m.GroupOpen ↦ 0 | m.GroupCount ↦ 0 | m.GroupClose ↦ groupCheck (st .groups) (st .counts) cells | m.Tie ↦ 0 | m.Trill ↦ trillCheck (st .counts) cells ]

@@ -8,6 +8,7 @@ ghost use Rattle.rules.specs.Characters.{charactersIn};
 ghost use Rattle.rules.specs.Rules.{closing};
 ghost use Rattle.rules.specs.Refusals.{isFermata};
 ghost use Rattle.records.specs.Cells.{wordLimit};
+ghost use Rattle.steps.specs.State.{Reached};
 ghost use Rattle.steps.specs.Relation.{countIn};
 ghost use Rattle.checks.specs.Checks.{failing, storing, letterCheck, barCheck, endCheck, markCheck, trillCheck, groupTimed, groupCheck};
 use character::characters_in;
@@ -19,9 +20,9 @@ use records::group::timed_from;
 use records::note::MARK_COUNT;
 use records::note::PITCH_COUNT;
 use records::note::field;
-use steps::state::figure_closed;
+use steps::state::count_from;
 use steps::state::has_content;
-use steps::state::open_length;
+use steps::state::reaches;
 
 // How many whole records are lent for notes, bars and the figure.
 pub struct Room {
@@ -102,11 +103,10 @@ pub fn check_end(counts: Counts, lent: usize, data: &[u8]) -> Stop
 
 // 11 where the figure that a `!` closes has no room.
 pub fn check_mark(groups: Groups, counts: Counts, lent: usize) -> u8
-    requires { ⌜ counts .first ≤ counts .notes ⌝ }
+    requires { ⌜ (counts .first ≤ counts .notes) × Reached (groups .figure) counts ⌝ }
     ensures { λ r. ⌜ r ≡ markCheck groups counts lent ⌝ }
 {
-    let closed = figure_closed(groups, open_length(counts), 0);
-    failing(lent < closed, 11)
+    failing(lent < count_from(groups.figure, counts), 11)
 }
 
 // 10 where `t` meets a last record of 8 marks.
@@ -130,27 +130,23 @@ fn is_fermata(timed: usize, count: u16) -> bool
 
 // The non-grace records of the open group, from its start on.
 pub fn group_timed(groups: Groups, counts: Counts, notes: &[i32]) -> Timed
-    requires { ⌜ (counts .notes * noteSize ≤ length (now notes)) × (counts .first ≤ counts .notes) ⌝ }
+    requires { ⌜ (counts .notes * noteSize ≤ length (now notes)) × (counts .first ≤ counts .notes) × Reached (groups .paren) counts ⌝ }
     ensures { λ r. ⌜ r ≡ groupTimed groups counts (now (notes .entry)) ⌝ }
 {
     let start = groups.paren;
-    let length = open_length(counts);
-    if !start.noted {
+    if !reaches(start, counts) {
         return Timed { count: 0, last: 0 };
     }
-    if length <= start.length {
-        return Timed { count: 0, last: 0 };
-    }
-    timed_from(notes, counts.first + start.length, length - start.length)
+    timed_from(notes, counts.first + start.from, count_from(start, counts))
 }
 
 // 10 where a `)` closes its group, of which these are non-grace, to a fermata at a record of 8 marks.
 pub fn check_group(groups: Groups, counts: Counts, timed: Timed, notes: &[i32]) -> u8
-    requires { ⌜ (timed ≡ groupTimed groups counts (now notes)) × (counts .notes * noteSize ≤ length (now notes)) × (counts .first ≤ counts .notes) ⌝ }
+    requires { ⌜ (timed ≡ groupTimed groups counts (now notes)) × (counts .notes * noteSize ≤ length (now notes)) × (counts .first ≤ counts .notes) × Reached (groups .paren) counts ⌝ }
     ensures { λ r. ⌜ r ≡ groupCheck groups counts (now (notes .entry)) ⌝ }
 {
     if is_fermata(timed.count, groups.count) {
-        let from = counts.first + groups.paren.length;
+        let from = counts.first + groups.paren.from;
         let marks = field(notes, from + timed.last, MARK_COUNT);
         return failing(Pae::MAX_MARKS <= marks as usize, 10);
     }

@@ -115,6 +115,7 @@ pub(crate) struct Outcome {
 fn show_data_piece(
     text: &[u8],
     piece: &[u8],
+    opened: &[usize],
     above: usize,
     most: usize,
     diagnostics: &[i32],
@@ -131,19 +132,35 @@ fn show_data_piece(
     }
     if 0 < n {
         end_row(&mut row, n);
-        show_diagnostics(text, diagnostics, outcome.diagnostics, true, above, most);
+        show_diagnostics(
+            text,
+            opened,
+            diagnostics,
+            outcome.diagnostics,
+            true,
+            above,
+            most,
+        );
     }
 }
 
 // The data in pieces.
-fn show_data(text: &[u8], data: &[u8], diagnostics: &[i32], outcome: Outcome) {
+fn show_data(text: &[u8], data: &[u8], opened: &[usize], diagnostics: &[i32], outcome: Outcome) {
     let mut above = 0;
     let mut at = 0;
     while at < data.len() {
         let piece = piece_from(data, at, WIDTH);
         let end = piece.end;
         let most = above + piece.size;
-        show_data_piece(text, &data[at..end], above, most, diagnostics, outcome);
+        show_data_piece(
+            text,
+            &data[at..end],
+            opened,
+            above,
+            most,
+            diagnostics,
+            outcome,
+        );
         above = most;
         at = end;
     }
@@ -166,7 +183,8 @@ fn show_pieces(line: &[u8], number: usize) {
     }
 }
 
-// The line between two offsets, with what is diagnosed there. Of the line that has the data only the beginning is shown here.
+// The line between two offsets, with what is diagnosed there; a field opens no group. Of the line that has the data only the beginning is
+// shown here.
 fn show_line(
     text: &[u8],
     start: usize,
@@ -188,7 +206,8 @@ fn show_line(
         }
     }
     show_pieces(&text[start..end], number);
-    show_diagnostics(text, diagnostics, count, false, number - 1, number);
+    let opened = [0usize; 1];
+    show_diagnostics(text, &opened, diagnostics, count, false, number - 1, number);
 }
 
 // Whether the line between two offsets is a keysig field.
@@ -231,6 +250,7 @@ pub(crate) fn show_text(
     text: &[u8],
     data: &[u8],
     start: usize,
+    opened: &[usize],
     diagnostics: &[i32],
     outcome: Outcome,
 ) -> usize {
@@ -240,7 +260,7 @@ pub(crate) fn show_text(
         keysig = show_lines(text, start, diagnostics, outcome.diagnostics);
         say_row(b"");
     }
-    show_data(text, data, diagnostics, outcome);
+    show_data(text, data, opened, diagnostics, outcome);
     if outcome.refusal != 0 {
         show_refusal(text, outcome.refusal, outcome.place);
     }

@@ -9,6 +9,7 @@ mod lookback; // lookback.rt: the look-back over the marks
 mod marks; // marks.rt: the second layer
 mod notes; // notes.rt: the third layer
 mod messages; // messages.rt: diagnostics and refusals in words
+mod opened; // opened.rt: which bar a group, beam or figure was opened in
 mod row; // row.rt: rows of the output
 mod terms; // terms.rt: the field's terms
 mod why; // why.rt: why each letter sounds as it does
@@ -29,6 +30,7 @@ use marks::cut;
 use marks::show_marks;
 use messages::show_refusal;
 use notes::show_notes;
+use opened::enter_opened;
 use reading::read::Reading;
 use reading::read::read;
 use records::cells::DIAGNOSTIC;
@@ -52,27 +54,44 @@ const SCRATCH: usize = Pae::MAX_DIAGNOSTICS * DIAGNOSTIC;
 
 const CELLS: usize = Pae::MAX_DIAGNOSTICS;
 
+// The key of the fields; the last keysig field stands in this line.
+fn key_field(fields: Fields, line: usize) -> KeyField {
+    let alters = fields.attributes.alters;
+    KeyField { alters, line }
+}
+
 // The layers of a text that is accepted.
 fn show_layers(
     data: &[u8],
-    fields: Fields,
-    keysig: usize,
+    key: KeyField,
     reading: Reading,
     ends: &[usize],
+    stored: &[u32],
     count: usize,
     notes: &[i32],
     bars: &[i32],
 ) {
-    let mut stored = [0u32; MARKS];
-    enter_stored(&mut stored, ends, count, notes, reading.notes);
     show_notes(notes, reading.notes, data, ends, count);
     show_bars(bars, reading.bars, notes);
-    let alters = fields.attributes.alters;
-    let key = KeyField {
-        alters,
-        line: keysig,
+    show_whys(data, ends, stored, notes, count, key);
+}
+
+// The first layer; the number of the last keysig field's line, 0 where there is none.
+fn show_typed(
+    text: &[u8],
+    data: &[u8],
+    fields: Fields,
+    reading: Reading,
+    opened: &[usize],
+    diagnostics: &[i32],
+) -> usize {
+    let outcome = Outcome {
+        diagnostics: reading.diagnostics,
+        refusal: reading.number,
+        place: reading.place,
     };
-    show_whys(data, ends, &stored, notes, count, key);
+    let offset = data_offset(fields);
+    show_text(text, data, offset, opened, diagnostics, outcome)
 }
 
 // The first layer, the marks of data that was looked at, and for an accepted text the other layers. The data stands between two offsets.
@@ -89,20 +108,21 @@ fn show_part(
     requires { ⌜ (start ≤ end) × (end ≤ length (now text)) ⌝ }
 {
     let data = &text[start..end];
-    let outcome = Outcome {
-        diagnostics: reading.diagnostics,
-        refusal: reading.number,
-        place: reading.place,
-    };
-    let keysig = show_text(text, data, data_offset(fields), diagnostics, outcome);
-    if (0 < reading.number) & (reading.number < 6) {
-        return;
-    }
     let mut ends = [0usize; ENDS];
     let count = cut(data, &mut ends);
-    show_marks(data, &ends, count);
-    if reading.number == 0 {
-        show_layers(data, fields, keysig, reading, &ends, count, notes, bars);
+    let mut stored = [0u32; MARKS];
+    enter_stored(&mut stored, &ends, count, notes, reading.notes);
+    let mut opened = [0usize; ENDS];
+    let refusal = reading.number;
+    enter_opened(&mut opened, data, &ends, &stored, notes, count, refusal);
+    let keysig = show_typed(text, data, fields, reading, &opened, diagnostics);
+    if (0 < refusal) & (refusal < 6) {
+        return;
+    }
+    show_marks(data, &ends, &opened, count);
+    if refusal == 0 {
+        let key = key_field(fields, keysig);
+        show_layers(data, key, reading, &ends, &stored, count, notes, bars);
     }
 }
 

@@ -4,6 +4,7 @@ ghost use Prim.Native.Nat.{_<_, _≤_};
 ghost use lib.ListN.{length};
 use super::characters::characters_between;
 use super::characters::piece_from;
+use super::opened::say_opened;
 use super::row::ROW;
 use super::row::end_row;
 use super::row::number_in;
@@ -55,10 +56,11 @@ fn set_word(ends: &mut [usize], at: usize, word: usize) {
     }
 }
 
-fn set_end(ends: &mut [usize], k: usize, end: usize, characters: usize) {
-    if k < MARKS {
-        set_word(ends, k, end);
-        set_word(ends, MARKS + k, characters);
+// Two words with a number, the second MARKS words further on.
+pub(crate) fn set_words(words: &mut [usize], at: usize, first: usize, second: usize) {
+    if at < MARKS {
+        set_word(words, at, first);
+        set_word(words, MARKS + at, second);
     }
 }
 
@@ -79,7 +81,7 @@ pub(crate) fn cut(data: &[u8], ends: &mut [usize]) -> usize {
         let end = mark_end(data, at);
         k += 1;
         characters += characters_between(data, at, end);
-        set_end(ends, k, end, characters);
+        set_words(ends, k, end, characters);
         at = end;
     }
     k
@@ -92,12 +94,25 @@ fn word_of(ends: &[usize], at: usize) -> usize {
     0
 }
 
-// The offset behind a mark.
-pub(crate) fn end_of(ends: &[usize], k: usize) -> usize {
-    if k < MARKS {
-        return word_of(ends, k);
+// The first of the two words with a number.
+pub(crate) fn first_word(words: &[usize], at: usize) -> usize {
+    if at < MARKS {
+        return word_of(words, at);
     }
     0
+}
+
+// The second of them.
+pub(crate) fn second_word(words: &[usize], at: usize) -> usize {
+    if at < MARKS {
+        return word_of(words, MARKS + at);
+    }
+    0
+}
+
+// The offset behind a mark.
+pub(crate) fn end_of(ends: &[usize], k: usize) -> usize {
+    first_word(ends, k)
 }
 
 // The offset of a mark.
@@ -108,20 +123,12 @@ pub(crate) fn start_of(ends: &[usize], k: usize) -> usize {
     end_of(ends, k - 1)
 }
 
-// How many characters stand up to the end of a mark.
-fn characters_to(ends: &[usize], k: usize) -> usize {
-    if k < MARKS {
-        return word_of(ends, MARKS + k);
-    }
-    0
-}
-
 // The place of a mark: one more than the characters before it.
 pub(crate) fn place_of(ends: &[usize], k: usize) -> usize {
     if k == 0 {
         return 0;
     }
-    let before = characters_to(ends, k - 1);
+    let before = second_word(ends, k - 1);
     if before < MARKS {
         return before + 1;
     }
@@ -430,7 +437,7 @@ fn is_blank_mark(token: Token) -> bool {
 }
 
 // A row for a mark. Blanks do nothing and have none.
-fn show_mark(data: &[u8], ends: &[usize], k: usize, inside: bool) {
+fn show_mark(data: &[u8], ends: &[usize], opened: &[usize], k: usize, inside: bool) {
     let start = start_of(ends, k);
     let end = end_of(ends, k);
     if is_blank_mark(token_in(data, start, end)) {
@@ -439,27 +446,29 @@ fn show_mark(data: &[u8], ends: &[usize], k: usize, inside: bool) {
     if start < end {
         if end <= data.len() {
             let value = &data[start + 1..end];
+            let place = place_of(ends, k);
             let mut row = [0u8; ROW];
-            let mut n = number_in(&mut row, 0, place_of(ends, k) as u64, 8);
+            let mut n = number_in(&mut row, 0, place as u64, 8);
             n = say(&mut row, n, b"  ");
             n = say_part(&mut row, n, data, start, end);
             n = pad(&mut row, n, 20);
             n = say(&mut row, n, b"  ");
             n = say_meaning(&mut row, n, data, start, end, value, inside);
+            n = say_opened(&mut row, n, opened, place);
             end_row(&mut row, n);
         }
     }
 }
 
-// The second layer.
-pub(crate) fn show_marks(data: &[u8], ends: &[usize], count: usize) {
+// The second layer. `opened`: the bars in which groups, beams and figures were opened (opened.rt).
+pub(crate) fn show_marks(data: &[u8], ends: &[usize], opened: &[usize], count: usize) {
     say_heading(b"2. Its marks");
     say_row(b"   place  mark        what it is");
     let mut inside = false;
     let mut k = 0;
     while k < count {
         k += 1;
-        show_mark(data, ends, k, inside);
+        show_mark(data, ends, opened, k, inside);
         inside = inside ^ (byte_at(data, start_of(ends, k)) == b'!');
     }
 }

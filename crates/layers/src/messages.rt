@@ -2,6 +2,7 @@
 use super::cells::diagnostic_word;
 use super::characters::malformed_at;
 use super::marks::say_part;
+use super::opened::opened_at;
 use super::row::ROW;
 use super::row::end_row;
 use super::row::pad;
@@ -26,14 +27,17 @@ const START: usize = 4;
 
 const END: usize = 5;
 
-// What diagnostics 10 to 20 mean.
-fn say_later(row: &mut [u8; ROW], n: usize, number: u32) -> usize {
+// That what is closed was opened in an earlier bar.
+fn say_earlier(row: &mut [u8; ROW], n: usize, words: &[u8], bar: usize) -> usize {
+    let m = say(row, n, words);
+    let k = say_number(row, m, bar as u64);
+    say(row, k, b", an earlier one; nothing is made of it")
+}
+
+// What diagnostics 10 to 20 mean. `bar`: where what is closed here was opened.
+fn say_later(row: &mut [u8; ROW], n: usize, number: u32, bar: usize) -> usize {
     match number {
-        10 => say(
-            row,
-            n,
-            b"its ( is in an earlier bar, further in than this one goes",
-        ),
+        10 => say_earlier(row, n, b"its ( is in bar ", bar),
         11 => say(
             row,
             n,
@@ -44,7 +48,7 @@ fn say_later(row: &mut [u8; ROW], n: usize, number: u32) -> usize {
         14 => say(row, n, b"the bar has no note or rest for it yet"),
         15 => say(row, n, b"no rule for this sign here"),
         16 => say(row, n, b"no note stands before it to be tied"),
-        17 => say(row, n, b"the bar is now shorter than at the first !"),
+        17 => say_earlier(row, n, b"its first ! is in bar ", bar),
         18 => say(row, n, b"there is no figure to repeat"),
         19 => say(row, n, b"only an empty bar behind another can repeat it"),
         _ => say(
@@ -55,8 +59,8 @@ fn say_later(row: &mut [u8; ROW], n: usize, number: u32) -> usize {
     }
 }
 
-// What a diagnostic means.
-fn say_diagnosis(row: &mut [u8; ROW], n: usize, number: u32) -> usize {
+// What a diagnostic means. `bar`: where what is closed here was opened.
+fn say_diagnosis(row: &mut [u8; ROW], n: usize, number: u32, bar: usize) -> usize {
     match number {
         1 => say(row, n, b"this line is no field, it is not read"),
         2 => say(row, n, b"no field with this name is read"),
@@ -75,7 +79,7 @@ fn say_diagnosis(row: &mut [u8; ROW], n: usize, number: u32) -> usize {
         7 => say(row, n, b"no meter; the old one stays"),
         8 => say(row, n, b"outside octaves 0 to 9; the old octave stays"),
         9 => say(row, n, b"a colon alone is no barline"),
-        _ => say_later(row, n, number),
+        _ => say_later(row, n, number, bar),
     }
 }
 
@@ -112,7 +116,7 @@ fn say_value(row: &mut [u8; ROW], n: usize, text: &[u8], diagnostics: &[i32], i:
 }
 
 // Diagnostic i as a row.
-fn show_diagnostic(text: &[u8], diagnostics: &[i32], i: u32) {
+fn show_diagnostic(text: &[u8], opened: &[usize], diagnostics: &[i32], i: u32) {
     let mut row = [0u8; ROW];
     let number = diagnostic_word(diagnostics, i, NUMBER);
     let mut n = pad(&mut row, 0, MARGIN);
@@ -124,7 +128,8 @@ fn show_diagnostic(text: &[u8], diagnostics: &[i32], i: u32) {
     n = say(&mut row, n, b"`:");
     n = end_row(&mut row, n);
     n = pad(&mut row, n, MARGIN + 2);
-    n = say_diagnosis(&mut row, n, number);
+    let place = diagnostic_word(diagnostics, i, PLACE) as usize;
+    n = say_diagnosis(&mut row, n, number, opened_at(opened, place));
     end_row(&mut row, n);
 }
 
@@ -149,6 +154,7 @@ fn is_within(diagnostics: &[i32], i: u32, data: bool, above: usize, most: usize)
 // The diagnostics of a line or of a part of the data, as rows.
 pub(crate) fn show_diagnostics(
     text: &[u8],
+    opened: &[usize],
     diagnostics: &[i32],
     count: u32,
     data: bool,
@@ -158,7 +164,7 @@ pub(crate) fn show_diagnostics(
     let mut i: u32 = 0;
     while i < count {
         if is_within(diagnostics, i, data, above, most) {
-            show_diagnostic(text, diagnostics, i);
+            show_diagnostic(text, opened, diagnostics, i);
         }
         i += 1;
     }

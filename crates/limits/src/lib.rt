@@ -37,10 +37,11 @@ pub struct Counts {
     pub bars: usize,
 }
 
-// A noted length of the open bar, or none.
+// Where a group, beam or figure starts: its bar, by the number of stored bars, and the open bar's length; or none.
 pub struct Start {
     pub noted: bool,
-    pub length: usize,
+    pub bar: usize,
+    pub from: usize,
 }
 
 // The starts that `!`, `{` and `(` noted, and the open group's count (256 means none).
@@ -99,7 +100,8 @@ impl Pae {
     {
         let none = Start {
             noted: false,
-            length: 0,
+            bar: 0,
+            from: 0,
         };
         Pae {
             attributes: Attributes {

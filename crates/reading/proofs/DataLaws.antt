@@ -33,7 +33,7 @@ use Rattle.steps.proofs.TableLaws.{tabled-clear}
 use Rattle.simulation.proofs.GroupsLaws.{fresh-grouped}
 use Rattle.simulation.proofs.RhythmLaws.{fresh-stands}
 use Rattle.simulation.proofs.VoiceLaws.{fresh-voiced}
-use Rattle.storing.proofs.GroupsOpenLaws.{closing-read}
+use Rattle.steps.proofs.StartLaws.{closing-open}
 use Rattle.storing.proofs.StepLaws.{fresh-stored, fresh-figured}
 use Rattle.checks.specs.declared.Room.{Room}
 use Rattle.checks.specs.Checks.{checkOf}
@@ -43,7 +43,7 @@ use Rattle.remarks.proofs.RemarkLaws.{openGroup}
 use Rattle.reading.specs.Walk.{Hand, armed, withDiagnostics, closingFor, remarked}
 use Rattle.reading.specs.Data.{attributesIn, begun, items, Begins, DataRead}
 use Rattle.reading.specs.WholeBars.{Resting, withResting, barsAdded, Sound}
-use Rattle.reading.proofs.HoldLaws.{Holds, refuses, goes-on, firstRest, first-sound, further-stops, further-goes, ended}
+use Rattle.reading.proofs.HoldLaws.{Holds, paren-reached, refuses, goes-on, firstRest, first-sound, further-stops, further-goes, ended}
 
 module _ (data′ : List ℕ) (start : ℕ) (n : ℕ) (scratch₀ : List ℤ) (room : Room) where
   -- a fresh reading of cleared cells
@@ -107,7 +107,7 @@ module _ (data′ : List ℕ) (start : ℕ) (n : ℕ) (scratch₀ : List ℤ) (r
 
       -- what an open group closes to, where the token is a `)`
       closes : token ≡ t.Marking m.GroupClose → st .groups .paren .noted ≡ true → closingFor token st notes ≡ rules.closingOf (openGroup (st .groups)) (stateAfter (attributesIn a) (w .before))
-      closes e noted = ap (λ (x : Token). closingFor x st notes) e ∙ closing-read (stateAfter (attributesIn a) (w .before)) (w .related .stored) (openGroup (st .groups))
+      closes e noted = ap (λ (x : Token). closingFor x st notes) e ∙ closing-open (stateAfter (attributesIn a) (w .before)) (w .related .stored) (st .groups) noted (paren-reached data′ start (attributesIn a) n scratch₀ size barsSize figureSize room 0 w)
 
       -- what its arm makes of what the walk holds
       abbrev made : Hand

@@ -9,9 +9,8 @@ use lib.IntN.{ℤ}
 use lib.ListN.{length, getD, take, drop}
 use lib.Seq.{slice}
 use Rattle.values.proofs.SliceLaws.{slice-part, slice-more}
-use lib.Dec.{eqb, leb}
-use borrow.Author.Tests.{ne-eqb, leb-true, ltb-true}
-use Rattle.text.proofs.BoolLaws.{both}
+use lib.Dec.{eqb}
+use borrow.Author.Tests.{ne-eqb, ltb-true}
 use Rattle.rules.specs.Limits.{noteLimit, noteSize, barSize, textLimit}
 use Rattle.rules.specs.Characters.{begun, charactersIn}
 use Rattle.rules.specs.Cut.{tokenSize}
@@ -28,19 +27,20 @@ use Rattle.text.proofs.WalkLaws.{tokenAt, items-step, items-end}
 use Rattle.values.specs.Rhythm.{Keeping, Standing}
 use Rattle.values.specs.declared.rhythm.Cursor.{Cursor}
 use Rattle.limits.specs.declared.Counts.{Counts}
+use Rattle.theorems.proofs.Starts.{starts}
 use Rattle.limits.specs.declared.Pae.{Pae}
 use Rattle.decode.specs.declared.Figure.the-variants as f
 use Rattle.decode.specs.declared.Marking.the-variants as m
 use Rattle.decode.specs.declared.Token.{Token}
 use Rattle.decode.specs.declared.Token.the-variants as t
 use Rattle.decode.specs.Decode.{tokenIn, Fine, Decoded}
-use Rattle.steps.specs.State.{hasContent, openLength, repeatedCount, counted, withCounts}
+use Rattle.steps.specs.State.{hasContent, openLength, repeatedCount, reaches, Reached, counted, withCounts}
 use Rattle.steps.specs.Accidentals.{Table, cleared}
 use Rattle.steps.specs.Notes.{endsOf, joinsOf, wholeBarCells}
 use Rattle.steps.specs.Steps.{countsNext, figureNext, stepped}
-use Rattle.steps.specs.Relation.{numberIn, Stored}
-use Rattle.steps.proofs.CountLaws.{length-open, content, first-below, last-below, blank-behind, length-notes, ends-agree, joins-agree}
-use Rattle.simulation.proofs.Choices.{pick}
+use Rattle.steps.specs.Relation.{numberIn, startOf, Stored}
+use Rattle.steps.proofs.CountLaws.{content, first-below, last-below, blank-behind, length-notes, ends-agree, joins-agree}
+use Rattle.steps.proofs.StartLaws.{reached-start}
 use Rattle.simulation.proofs.Items.{itemIn, item-decoded}
 use Rattle.storing.proofs.FigureLaws.{figure-count, figure-fits}
 use Rattle.checks.specs.declared.Room.{Room}
@@ -110,14 +110,11 @@ figure-small t.BadCount st h g = h
 figure-small (t.Barline barline) st h g = h
 figure-small (t.Grace slashed) st h g = h
 figure-small (t.GraceGroup begins) st h g = h
-figure-small (t.Figure f.Mark) st h g = go (st .groups .figure .noted)
+figure-small (t.Figure f.Mark) st h g = go (reaches (st .groups .figure) (st .counts))
   where
-    n : ℕ
-    n = openLength (st .counts)
-
-    go : (noted : Bool) → cond noted (cond (leb (st .groups .figure .length) n) (n - st .groups .figure .length) (st .figure)) (st .figure) ≤ noteLimit
+    go : (b : Bool) → cond b (cond b (openLength (st .counts) - st .groups .figure .from) 0) (st .figure) ≤ noteLimit
     go false = h
-    go true = pick (λ (x : ℕ). x ≤ noteLimit) (leb (st .groups .figure .length) n) (n - st .groups .figure .length) (st .figure) (omega arith) h
+    go true = omega arith
 figure-small (t.Figure f.Repeat) st h g = h
 figure-small (t.Figure f.Bar) st h g = h
 figure-small (t.Marking marking) st h g = h
@@ -180,6 +177,16 @@ module _ (data′ : List ℕ) (start : ℕ) (k : rules.Attributes) (count₀ : �
     abbrev pub s : rules.State
     s = stateAfter k (w .before)
 
+    -- no start of the open bar is beyond its length
+    pub figure-reached : Reached (st .groups .figure) (st .counts)
+    figure-reached = reached-start s (w .related .stored) (st .groups .figure) (λ n. starts k (w .before) .figure (startOf (st .groups .figure)) (w .related .groups .figure ∙ rw n) .inside)
+
+    pub beam-reached : Reached (st .groups .beam) (st .counts)
+    beam-reached = reached-start s (w .related .stored) (st .groups .beam) (λ n. starts k (w .before) .beam (startOf (st .groups .beam)) (w .related .groups .beam ∙ rw n) .inside)
+
+    pub paren-reached : Reached (st .groups .paren) (st .counts)
+    paren-reached = reached-start s (w .related .stored) (st .groups .paren) (λ n. starts k (w .before) .group (openGroup (st .groups)) (w .related .groups .paren ∙ rw n) .inside)
+
     -- the place of the token here
     abbrev here : ℕ
     here = placeAt at tails
@@ -225,7 +232,7 @@ module _ (data′ : List ℕ) (start : ℕ) (k : rules.Attributes) (count₀ : �
       rules-join = sym (joins-agree (w .related .voice) (w .related .stored)) ∙ joins
 
       checked : tokenRefusal lent (item .token) s ≡ numberIn (checkOf token st joined notes room)
-      checked = check-agrees st room cells (w .related .stored) (w .related .groups) (sym (figure-count (w .related .figured))) (sym rules-join) (getD data′ at 0) (valueFrom data′ at end) token
+      checked = check-agrees st room cells (w .related .stored) (w .related .groups) (sym (figure-count (w .related .figured))) (sym rules-join) paren-reached (getD data′ at 0) (valueFrom data′ at end) token
 
       -- what it comes to with the tokens before it, by its own turns
       refused-here : tokensRefusal lent k (item ∷ w .before) ≡ refusalInTurn lent item (furtherBars (item .token)) s
@@ -299,10 +306,16 @@ module _ (data′ : List ℕ) (start : ℕ) (k : rules.Attributes) (count₀ : �
         roomy (t.Barline barline) e = λ h. omega (arith, checks.bar-ready st joined notes room barsSize barline lendsBars h e)
         roomy (t.Grace slashed) e = tt
         roomy (t.GraceGroup begins) e = tt
-        roomy (t.Figure f.Mark) e = tt
+        roomy (t.Figure f.Mark) e = figure-reached
         roomy (t.Figure f.Repeat) e = checks.repeat-ready st joined notes room (w .related .stored) lends e
         roomy (t.Figure f.Bar) e = checks.repeat-bar-ready st joined notes room (w .related .stored) lends e
-        roomy (t.Marking marking) e = tt
+        roomy (t.Marking m.BeamOpen) e = tt
+        roomy (t.Marking m.BeamClose) e = beam-reached
+        roomy (t.Marking m.GroupOpen) e = tt
+        roomy (t.Marking m.GroupCount) e = tt
+        roomy (t.Marking m.GroupClose) e = paren-reached
+        roomy (t.Marking m.Tie) e = tt
+        roomy (t.Marking m.Trill) e = tt
         roomy t.Blank e = tt
         roomy t.Colon e = tt
         roomy t.Unknown e = tt
@@ -356,18 +369,19 @@ module _ (data′ : List ℕ) (start : ℕ) (k : rules.Attributes) (count₀ : �
           asked (t.GraceGroup begins) h e = tt
           asked (t.Figure f.Mark) h e = record {
             within = within-here;
-            room = λ r. let z = both (st .groups .figure .noted) (leb (st .groups .figure .length) (openLength (st .counts))) r in
-                omega (arith, checks.figure-ready st joined notes room figureSize lendsFigure (z .0) (leb-true (st .groups .figure .length) (openLength (st .counts)) (z .1)) e, w .figureLength);
+            reached = figure-reached;
+            room = omega (arith, checks.figure-ready st joined notes room figureSize lendsFigure e, w .figureLength);
           }
           asked (t.Figure f.Repeat) h e = (record { within = within-here; place = place (st .figure) (roomy (t.Figure f.Repeat) e) }, figure-fits (w .related .figured))
           asked (t.Figure f.Bar) h e = record { within = within-here; place = place (repeatedCount (st .counts)) (roomy (t.Figure f.Bar) e) }
           asked (t.Marking m.BeamOpen) h e = tt
-          asked (t.Marking m.BeamClose) h e = tt
+          asked (t.Marking m.BeamClose) h e = beam-reached
           asked (t.Marking m.GroupOpen) h e = tt
           asked (t.Marking m.GroupCount) h e = tt
           asked (t.Marking m.GroupClose) h e = record {
             within = within-here;
-            room = λ n c. checks.fermata-ready st joined notes room (w .related .stored) n c e .1;
+            reached = paren-reached;
+            room = λ c. checks.fermata-ready st joined notes room s (w .related .stored) paren-reached c e;
           }
           asked (t.Marking m.Tie) h e = tt
           asked (t.Marking m.Trill) h e = record { within = within-here; room = λ f. let r = checks.trill-ready st joined notes room (w .related .stored) f e in (rw (record-word noteSize notes (st .counts .notes - 1) markCountAt (omega arith)) (r .0), rw (record-word noteSize notes (st .counts .notes - 1) marksAt (omega arith)) (r .1)) }
@@ -385,7 +399,7 @@ module _ (data′ : List ℕ) (start : ℕ) (k : rules.Attributes) (count₀ : �
 
           found-is : tokenFound token (valueFrom data′ at end) st (endsOf (st .counts) notes) closing (itemFrom data′ start here at end token) ≡ tokenDiagnosed item s (item .token)
           found-is = remarks-agree st s (endsOf (st .counts) notes) closing (valueFrom data′ at end) (itemFrom data′ start here at end token) (w .related .voice) (w .related .groups)
-              (content (s .openBar) (w .related .stored)) (length-open (w .related .stored)) (ap (λ (n : ℕ). eqb n 0) (figure-count (w .related .figured)) ∙ no-elements (s .figure))
+              (content (s .openBar) (w .related .stored)) (w .related .stored .bars) (ap (λ (n : ℕ). eqb n 0) (figure-count (w .related .figured)) ∙ no-elements (s .figure))
               (ap (λ (n : ℕ). eqb n 0) (w .related .stored .bars) ∙ no-elements (s .bars)) (ends-agree (s .openBar) (w .related .stored)) (getD data′ at 0) token closes
 
           pub goes-on : furtherBars (item .token) ≡ 0 → length (made .bars) ≡ length bars → length (made .figure) ≡ length held → length (cellsAfterAll scratch (st .diagnostics) found) ≡ length scratch

@@ -17,7 +17,7 @@ use Rattle.decode.specs.declared.Token.{Token}
 use Rattle.decode.specs.declared.Token.the-variants as t
 use Rattle.decode.specs.Decode.{Fine}
 use Rattle.records.specs.Notes.{pitchCountAt}
-use Rattle.steps.specs.State.{hasContent, openLength, repeatedCount}
+use Rattle.steps.specs.State.{hasContent, repeatedCount, Reached}
 use Rattle.steps.specs.Accidentals.{Table}
 use Rattle.steps.specs.Notes.{lastField, endsOf, joinsOf}
 use Rattle.steps.specs.Steps.{countsNext, figureNext, tableNext, stepped}
@@ -46,7 +46,7 @@ pub record Related (size barsSize : ℕ) (s : rules.State) (st : Pae) (table : T
 abbrev pub Fits : ℕ → Pae → ℕ → Type 0
 Fits size st n = ((st .counts .notes + n) * noteSize ≤ size) × (st .counts .notes + n ≤ noteLimit)
 
--- what a token that can be taken has: room for its records, its pitch, its bar
+-- what a token that can be taken has: room for its records, its pitch, its bar; what it closes starts within its bar
 abbrev pub Room : ℕ → ℕ → Pae → Bool → List ℤ → Token → Type 0
 Room size barsSize st joined notes token = elim token [
   | t.Clef ↦ Unit {0}
@@ -63,8 +63,8 @@ Room size barsSize st joined notes token = elim token [
   | t.Barline barline ↦ hasContent (st .counts) ≡ true → st .counts .bars * barSize + barSize ≤ barsSize
   | t.Grace slashed ↦ Unit {0}
   | t.GraceGroup begins ↦ Unit {0}
-  | t.Figure figure ↦ elim figure [ f.Mark ↦ Unit {0} | f.Repeat ↦ Fits size st (st .figure) | f.Bar ↦ Fits size st (repeatedCount (st .counts)) ]
-  | t.Marking marking ↦ Unit {0}
+  | t.Figure figure ↦ elim figure [ f.Mark ↦ Reached (st .groups .figure) (st .counts) | f.Repeat ↦ Fits size st (st .figure) | f.Bar ↦ Fits size st (repeatedCount (st .counts)) ]
+  | t.Marking marking ↦ elim marking [ m.BeamOpen ↦ Unit {0} | m.BeamClose ↦ Reached (st .groups .beam) (st .counts) | m.GroupOpen ↦ Unit {0} | m.GroupCount ↦ Unit {0} | m.GroupClose ↦ Reached (st .groups .paren) (st .counts) | m.Tie ↦ Unit {0} | m.Trill ↦ Unit {0} ]
   | t.Blank ↦ Unit {0}
   | t.Colon ↦ Unit {0}
   | t.Unknown ↦ Unit {0}
@@ -81,16 +81,16 @@ module _ (place offset width b : ℕ) (value : List ℕ) {size barsSize : ℕ} {
 
   -- ---- the notes
 
-  stored-marking : (marking : Marking) → let token = t.Marking marking in
+  stored-marking : (marking : Marking) → let token = t.Marking marking in Room size barsSize st joined notes token →
       Stored size (After token .openBar) (After token .bars) (countsNext token joined (st .figure) (st .counts)) (notesNext token st joined taken table place held notes)
   unfolding notesNext
-  stored-marking m.BeamOpen = storing.beam-open-stored place offset width s (w .stored)
-  stored-marking m.BeamClose = storing.beam-close-stored place offset width s (w .stored) (w .groups)
-  stored-marking m.GroupOpen = storing.group-open-stored place offset width s (w .stored)
-  stored-marking m.GroupCount = storing.group-count-stored place offset width s (w .stored) _
-  stored-marking m.GroupClose = storing.group-close-stored place offset width s (w .stored) (w .groups)
-  stored-marking m.Tie = storing.tie-stored place offset width s (w .stored)
-  stored-marking m.Trill = storing.trill-stored place offset width s (w .stored)
+  stored-marking m.BeamOpen q = storing.beam-open-stored place offset width s (w .stored)
+  stored-marking m.BeamClose q = storing.beam-close-stored place offset width s (w .stored) (w .groups) q
+  stored-marking m.GroupOpen q = storing.group-open-stored place offset width s (w .stored)
+  stored-marking m.GroupCount q = storing.group-count-stored place offset width s (w .stored) _
+  stored-marking m.GroupClose q = storing.group-close-stored place offset width s (w .stored) (w .groups) q
+  stored-marking m.Tie q = storing.tie-stored place offset width s (w .stored)
+  stored-marking m.Trill q = storing.trill-stored place offset width s (w .stored)
 
   stored-agrees : (token : Token) → Fine b token → Room size barsSize st joined notes token
       → Stored size (After token .openBar) (After token .bars) (countsNext token joined (st .figure) (st .counts)) (notesNext token st joined taken table place held notes)
@@ -114,7 +114,7 @@ module _ (place offset width b : ℕ) (value : List ℕ) {size barsSize : ℕ} {
   stored-agrees (t.Figure f.Mark) h q = storing.figure-mark-stored place offset width s (w .stored)
   stored-agrees (t.Figure f.Repeat) h q = storing.figure-repeat-stored place offset width s (w .stored) (w .figured) (q .0) (q .1)
   stored-agrees (t.Figure f.Bar) h q = storing.bar-repeat-stored place offset width s (w .stored) (q .0) (q .1)
-  stored-agrees (t.Marking marking) h q = stored-marking marking
+  stored-agrees (t.Marking marking) h q = stored-marking marking q
   stored-agrees t.Blank h q = storing.quiet-stored place offset width s (w .stored) _ refl refl refl refl refl refl
   stored-agrees t.Colon h q = storing.quiet-stored place offset width s (w .stored) _ refl refl refl refl refl refl
   stored-agrees t.Unknown h q = storing.quiet-stored place offset width s (w .stored) _ refl refl refl refl refl refl
@@ -165,29 +165,29 @@ module _ (place offset width b : ℕ) (value : List ℕ) {size barsSize : ℕ} {
   barred-agrees t.Colon q = w .barred
   barred-agrees t.Unknown q = w .barred
 
-  figured-agrees : (token : Token) → Figured (After token .figure) (figureNext token st) (heldNext token st notes held)
+  figured-agrees : (token : Token) → Room size barsSize st joined notes token → Figured (After token .figure) (figureNext token st) (heldNext token st notes held)
   unfolding step heldNext
-  figured-agrees t.Clef = w .figured
-  figured-agrees t.Key = w .figured
-  figured-agrees t.Meter = w .figured
-  figured-agrees (t.Octave octave) = w .figured
-  figured-agrees t.Duration = w .figured
-  figured-agrees (t.Accidental alter) = w .figured
-  figured-agrees (t.Letter name) = w .figured
-  figured-agrees t.Chord = w .figured
-  figured-agrees t.Rest = w .figured
-  figured-agrees (t.WholeBars count) = w .figured
-  figured-agrees t.BadCount = w .figured
-  figured-agrees (t.Barline barline) = w .figured
-  figured-agrees (t.Grace slashed) = w .figured
-  figured-agrees (t.GraceGroup begins) = w .figured
-  figured-agrees (t.Figure f.Mark) = storing.figure-mark-figured place offset width s (w .stored) (w .groups) (w .figured)
-  figured-agrees (t.Figure f.Repeat) = w .figured
-  figured-agrees (t.Figure f.Bar) = w .figured
-  figured-agrees (t.Marking marking) = w .figured
-  figured-agrees t.Blank = w .figured
-  figured-agrees t.Colon = w .figured
-  figured-agrees t.Unknown = w .figured
+  figured-agrees t.Clef q = w .figured
+  figured-agrees t.Key q = w .figured
+  figured-agrees t.Meter q = w .figured
+  figured-agrees (t.Octave octave) q = w .figured
+  figured-agrees t.Duration q = w .figured
+  figured-agrees (t.Accidental alter) q = w .figured
+  figured-agrees (t.Letter name) q = w .figured
+  figured-agrees t.Chord q = w .figured
+  figured-agrees t.Rest q = w .figured
+  figured-agrees (t.WholeBars count) q = w .figured
+  figured-agrees t.BadCount q = w .figured
+  figured-agrees (t.Barline barline) q = w .figured
+  figured-agrees (t.Grace slashed) q = w .figured
+  figured-agrees (t.GraceGroup begins) q = w .figured
+  figured-agrees (t.Figure f.Mark) q = storing.figure-mark-figured place offset width s (w .stored) (w .groups) q (w .figured)
+  figured-agrees (t.Figure f.Repeat) q = w .figured
+  figured-agrees (t.Figure f.Bar) q = w .figured
+  figured-agrees (t.Marking marking) q = w .figured
+  figured-agrees t.Blank q = w .figured
+  figured-agrees t.Colon q = w .figured
+  figured-agrees t.Unknown q = w .figured
 
   -- ---- all of it
 
@@ -198,9 +198,9 @@ module _ (place offset width b : ℕ) (value : List ℕ) {size barsSize : ℕ} {
   token-related token h q = record {
     voice = voice-agrees place offset width b value (w .voice) token joined (endsOf (st .counts) notes) h rules-join (sym (ends-agree (s .openBar) (w .stored)));
     attributes = attributes-agree place offset width b value st (w .attributes) (open-empty (s .openBar) (w .stored)) token;
-    groups = groups-agree place offset width b value (w .groups) (openLength (st .counts)) (length-open (w .stored)) token;
+    groups = groups-agree place offset width b value (w .groups) (st .counts) (λ i. record { bar = w .stored .bars i; from = length-open (w .stored) i }) token;
     tabled = tabled-agrees token h;
     stored = stored-agrees token h q;
     barred = barred-agrees token q;
-    figured = figured-agrees token;
+    figured = figured-agrees token q;
   }

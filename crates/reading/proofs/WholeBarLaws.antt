@@ -35,7 +35,7 @@ use Rattle.storing.proofs.StepLaws.{barline-stored, whole-bar-stored}
 use Rattle.storing.proofs.FigureLaws.{figure-count}
 use Rattle.checks.specs.declared.Room.{Room}
 use Rattle.checks.specs.Checks.{storing, barCheck}
-use Rattle.checks.proofs.CheckLaws.{lentIn, check-agrees, Fit, storing-ready, bars-ready}
+use Rattle.checks.proofs.CheckLaws.{lentIn, storing-agrees, barline-agrees, Fit, storing-ready, bars-ready}
 use Rattle.reading.specs.Cells.{notesNext, barsNext, heldNext}
 use Rattle.reading.specs.WholeBars.{Resting, withResting, checked, barClosed, restAdded, barsAdded, Sound}
 use Rattle.reading.proofs.TokenLaws.{Related, token-related}
@@ -182,11 +182,11 @@ module _ (room : Room) (cells : ℕ) (place offset width b : ℕ) (value : List 
   module _ {s : State} {table : Table} (r : Resting) (a : Along s table r) where
     bar-refused : refusalAt lent (innerBarline item) s ≡ failing (barCheck (r .counts) (room .bars))
     bar-refused = ap (λ (o : Option ℕ). given o none (λ j. some (refusal j place)))
-        (check-agrees (withResting r st) room cells (a .stored) (a .groups) (sym (figure-count (a .figured))) (joins-agree (a .voice) (a .stored)) b value (t.Barline normal))
+        (barline-agrees (withResting r st) room cells (a .stored) (a .groups) (sym (figure-count (a .figured))) (joins-agree (a .voice) (a .stored)) 0 0)
 
     rest-refused : refusalAt lent item s ≡ failing (storing (r .counts .notes) 1 (room .notes))
     rest-refused = ap (λ (o : Option ℕ). given o none (λ j. some (refusal j place)))
-        (check-agrees (withResting r st) room cells (a .stored) (a .groups) (sym (figure-count (a .figured))) (joins-agree (a .voice) (a .stored)) b value (t.WholeBars count))
+        (storing-agrees (withResting r st) room cells (a .stored) (a .groups) (sym (figure-count (a .figured))) (joins-agree (a .voice) (a .stored)) 1 1 (room .notes) refl)
 
     bar-along : barCheck (r .counts) (room .bars) ≡ 0 → Along (step (innerBarline item) s) cleared (record { number = 0; counts = barCounted (r .counts); attributes = barAttributes (hasContent (r .counts)) 0 (r .attributes); notes = r .notes; bars = storedBars (r .counts) (r .attributes) 0 (r .bars) })
     unfolding stepped notesNext barsNext heldNext

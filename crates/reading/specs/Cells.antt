@@ -1,10 +1,9 @@
 -- What each kind of token makes of the lent cells. Assumes nothing.
-use Prim.Native.Nat.{ℕ, _+_, _-_, _*_}
-use mathlib.Core.Bool.{Bool, cond, _&&_}
+use Prim.Native.Nat.{ℕ, _+_, _*_}
+use mathlib.Core.Bool.{Bool, cond}
 use mathlib.Core.List.{List}
 use lib.IntN.{ℤ, pos}
 use lib.ListN.{getD, take, drop}
-use lib.Dec.{leb}
 use Rattle.rules.specs.Limits.{noteSize}
 use Rattle.rules.specs.Values.{Length}
 use Rattle.rules.specs.Rules.{Closing, closing}
@@ -12,7 +11,6 @@ use Rattle.records.specs.Cells.{written}
 use Rattle.records.specs.Copies.{copies}
 use Rattle.records.specs.Groups.{timedCount, beamed, onPart}
 use Rattle.limits.specs.declared.Counts.{Counts}
-use Rattle.limits.specs.declared.Start.{Start}
 use Rattle.limits.specs.declared.Groups.{Groups}
 use Rattle.limits.specs.declared.Pae.{Pae}
 use Rattle.decode.specs.declared.Figure.{Figure}
@@ -21,24 +19,11 @@ use Rattle.decode.specs.declared.Marking.{Marking}
 use Rattle.decode.specs.declared.Marking.the-variants as m
 use Rattle.decode.specs.declared.Token.{Token}
 use Rattle.decode.specs.declared.Token.the-variants as t
-use Rattle.steps.specs.State.{hasContent, openLength, repeatedCount}
+use Rattle.steps.specs.State.{hasContent, reaches, recordFrom, cellsFrom, countFrom, repeatedCount}
 use Rattle.steps.specs.Accidentals.{Table, entry, alterOf}
 use Rattle.steps.specs.Bars.{storedBars}
 use Rattle.steps.specs.Notes.{endsOf, joinedCells, openedCells, restCells, wholeBarCells, tiedCells, trilledCells, closedCells}
 use Rattle.steps.specs.Relation.{countIn}
-
--- ---- parts of the open bar
-
--- a start that is noted and not beyond the bar's length
-abbrev pub reaches : Start → Counts → Bool
-reaches start c = start .noted && leb (start .length) (openLength c)
-
--- the record at a start, and how many there are from it on
-abbrev pub recordFrom : Start → Counts → ℕ
-recordFrom start c = c .first + start .length
-
-abbrev pub countFrom : Start → Counts → ℕ
-countFrom start c = openLength c - start .length
 
 -- ---- letters
 
@@ -64,7 +49,7 @@ figureCells figure st place cells held = elim figure [ f.Mark ↦ cells | f.Repe
 -- the figure after a closing `!`
 abbrev pub figureTaken : Groups → Counts → List ℤ → List ℤ → List ℤ
 figureTaken g c cells held = let start = g .figure in
-    cond (reaches start c) (written held 0 (take (countFrom start c * noteSize) (drop (recordFrom start c * noteSize) cells))) held
+    cond (reaches start c) (written held 0 (take (countFrom start c * noteSize) (cellsFrom start c cells))) held
 
 abbrev pub figureHeld : Figure → Pae → List ℤ → List ℤ → List ℤ
 figureHeld figure st cells held = elim figure [ f.Mark ↦ figureTaken (st .groups) (st .counts) cells held | f.Repeat ↦ held | f.Bar ↦ held ]
@@ -78,11 +63,11 @@ beamCells g c cells = let start = g .beam in
 -- what the open group closes to
 abbrev pub closingIn : Groups → Counts → List ℤ → Closing
 closingIn g c cells = let start = g .paren in
-    closing (timedCount (drop (recordFrom start c * noteSize) cells) (countFrom start c)) (countIn (g .count))
+    closing (timedCount (cellsFrom start c cells) (countFrom start c)) (countIn (g .count))
 
 abbrev pub groupCells : Groups → Counts → List ℤ → List ℤ
 groupCells g c cells = let start = g .paren in
-    cond (start .noted) (closedCells (closingIn g c cells) (recordFrom start c) (countFrom start c) cells) cells
+    cond (reaches start c) (closedCells (closingIn g c cells) (recordFrom start c) (countFrom start c) cells) cells
 
 abbrev pub markingCells : Marking → Pae → List ℤ → List ℤ
 markingCells marking st cells = let c = st .counts in elim marking [ m.BeamOpen ↦ cells | m.BeamClose ↦ beamCells (st .groups) c cells | m.GroupOpen ↦ cells | m.GroupCount ↦ cells | m.GroupClose ↦ groupCells (st .groups) c cells | m.Tie ↦ cond (endsOf c cells) (tiedCells c cells) cells | m.Trill ↦ cond (hasContent c) (trilledCells c cells) cells ]

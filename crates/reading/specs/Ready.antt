@@ -20,9 +20,9 @@ use Rattle.decode.specs.declared.Marking.{Marking}
 use Rattle.decode.specs.declared.Marking.the-variants as m
 use Rattle.decode.specs.declared.Token.{Token}
 use Rattle.decode.specs.declared.Token.the-variants as t
-use Rattle.steps.specs.State.{hasContent, repeatedCount}
+use Rattle.steps.specs.State.{hasContent, Reached, cellsFrom, countFrom, repeatedCount}
 use Rattle.steps.specs.Notes.{lastField}
-use Rattle.reading.specs.Cells.{reaches, recordFrom, countFrom, closingIn}
+use Rattle.reading.specs.Cells.{closingIn}
 
 -- the records stand in the cells, and there are few bars
 pub record Within (c : Counts) (cells : List ℤ) : Type 0 where
@@ -54,7 +54,8 @@ pub record LetterReady (c : Counts) (joined : Bool) (cells : List ℤ) : Type 0 
 -- a closing `!` finds room in the figure
 pub record FigureReady (g : Groups) (c : Counts) (cells held : List ℤ) : Type 0 where
   pub within : Within c cells
-  pub room : reaches (g .figure) c ≡ true → countFrom (g .figure) c * noteSize ≤ length held
+  pub reached : Reached (g .figure) c
+  pub room : countFrom (g .figure) c * noteSize ≤ length held
 
 -- what a closing asks of `count` records from record `from` on: a fermata finds room for a mark, a tuplet has three or more
 abbrev pub ClosingReady : Closing → ℕ → ℕ → List ℤ → Type 0
@@ -66,7 +67,8 @@ ClosingReady (tooFew actual) from count cells = Unit {0}
 -- a group that closes to a fermata finds room for a mark
 pub record GroupReady (g : Groups) (c : Counts) (cells : List ℤ) : Type 0 where
   pub within : Within c cells
-  pub room : g .paren .noted ≡ true → closingIn g c cells ≡ fermata → let part = drop (recordFrom (g .paren) c * noteSize) cells in HasRoom (recordAt noteSize part (lastNonGrace part (countFrom (g .paren) c)))
+  pub reached : Reached (g .paren) c
+  pub room : closingIn g c cells ≡ fermata → let part = cellsFrom (g .paren) c cells in HasRoom (recordAt noteSize part (lastNonGrace part (countFrom (g .paren) c)))
 
 -- a trill finds room for a mark
 pub record TrillReady (c : Counts) (cells : List ℤ) : Type 0 where
@@ -87,7 +89,7 @@ FigureAsked f.Bar st cells held = PlaceReady (repeatedCount (st .counts)) (st .c
 
 abbrev pub MarkingAsked : Marking → Pae → List ℤ → Type 0
 MarkingAsked m.BeamOpen st cells = Unit {0}
-MarkingAsked m.BeamClose st cells = Unit {0}
+MarkingAsked m.BeamClose st cells = Reached (st .groups .beam) (st .counts)
 MarkingAsked m.GroupOpen st cells = Unit {0}
 MarkingAsked m.GroupCount st cells = Unit {0}
 MarkingAsked m.GroupClose st cells = GroupReady (st .groups) (st .counts) cells

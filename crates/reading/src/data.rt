@@ -290,12 +290,12 @@ pub fn read_data(
                     if stop != 0 {
                         return stopped(stop, span, st);
                     }
-                    let length = state::open_length(st.counts);
-                    let found = mark_found(st.groups.figure, length, span);
+                    let found = mark_found(st.groups.figure, st.counts, span);
                     st.diagnostics = store_found(scratch, st.diagnostics, found);
                     figure_mark(st.groups, st.counts, notes, figure);
-                    st.figure = state::figure_closed(st.groups, length, st.figure);
-                    st.groups = state::figure_marked(st.groups, length);
+                    st.figure = state::figure_closed(st.groups, st.counts, st.figure);
+                    let here = state::start_here(st.counts);
+                    st.groups = state::figure_marked(st.groups, here);
                     continue;
                 }
                 Figure::Repeat => {
@@ -326,8 +326,8 @@ pub fn read_data(
             Token::Marking(which) => match which {
                 // Beams: `{` to `}`.
                 Marking::BeamOpen => {
-                    let length = state::open_length(st.counts);
-                    st.groups = state::beam_opened(st.groups, length);
+                    let here = state::start_here(st.counts);
+                    st.groups = state::beam_opened(st.groups, here);
                     continue;
                 }
                 Marking::BeamClose => {
@@ -337,8 +337,8 @@ pub fn read_data(
                 }
                 // Fermata and rhythmic groups: `(` to `)`, `;` with the count.
                 Marking::GroupOpen => {
-                    let length = state::open_length(st.counts);
-                    st.groups = state::paren_opened(st.groups, length);
+                    let here = state::start_here(st.counts);
+                    st.groups = state::paren_opened(st.groups, here);
                     continue;
                 }
                 Marking::GroupCount => {

@@ -9,7 +9,7 @@ ghost use Rattle.records.specs.Cells.{wordLimit};
 ghost use Rattle.records.specs.Groups.{closingOf};
 ghost use Rattle.values.specs.Attributes.{clefValue, keyValue, meterOption};
 ghost use Rattle.values.specs.Rhythm.{lengthIn};
-ghost use Rattle.steps.specs.State.{letterJoined, letterOpened, hasContent, clefSet, keySet, meterSet, counted, repeatedCount};
+ghost use Rattle.steps.specs.State.{letterJoined, letterOpened, hasContent, Reached, clefSet, keySet, meterSet, counted, repeatedCount};
 ghost use Rattle.steps.specs.Notes.{joinedCells, openedCells, tiedCells, trilledCells, closedCells};
 ghost use Rattle.remarks.specs.Remarks.{valueFrom};
 ghost use Rattle.reading.specs.Cells.{figureCopied, barCopied, figureTaken, beamCells, closingIn, groupCells};
@@ -137,19 +137,15 @@ pub fn figure_mark(groups: Groups, counts: Counts, notes: &[i32], figure: &mut [
     requires { ⌜ FigureReady groups counts (now notes) (now figure) ⌝ }
     ensures { λ _. ⌜ now (figure .exit) ≡ figureTaken groups counts (now (notes .entry)) (now (figure .entry)) ⌝ }
 {
-    let length = state::open_length(counts);
     let start = groups.figure;
-    if !start.noted {
-        return;
-    }
-    if length < start.length {
+    if !state::reaches(start, counts) {
         return;
     }
     take_figure(
         figure,
         notes,
-        counts.first + start.length,
-        length - start.length,
+        counts.first + start.from,
+        state::count_from(start, counts),
     );
 }
 
@@ -175,18 +171,18 @@ pub fn bar_repeat(n: usize, counts: Counts, notes: &mut [i32], place: Place)
 
 // `}`
 pub fn close_beam(groups: Groups, counts: Counts, notes: &mut [i32])
-    requires { ⌜ Within counts (now notes) ⌝ }
+    requires { ⌜ Within counts (now notes) × Reached (groups .beam) counts ⌝ }
     ensures { λ _. ⌜ now (notes .exit) ≡ beamCells groups counts (now (notes .entry)) ⌝ }
 {
-    let length = state::open_length(counts);
     let start = groups.beam;
-    if !start.noted {
+    if !state::reaches(start, counts) {
         return;
     }
-    if length < start.length {
-        return;
-    }
-    beam_from(notes, counts.first + start.length, length - start.length);
+    beam_from(
+        notes,
+        counts.first + start.from,
+        state::count_from(start, counts),
+    );
 }
 
 // What a group closes to, given to its `count` records from record `from` on.
@@ -214,22 +210,18 @@ fn notate_group(notes: &mut [i32], closing: Closing, from: usize, count: usize)
 
 // `)`; closing: what the open group closes to
 pub fn close_paren(groups: Groups, counts: Counts, closing: Closing, notes: &mut [i32])
-    requires { ⌜ GroupReady groups counts (now notes) × (groups .paren .noted ≡ true → closingOf closing ≡ closingIn groups counts (now notes)) ⌝ }
+    requires { ⌜ GroupReady groups counts (now notes) × (closingOf closing ≡ closingIn groups counts (now notes)) ⌝ }
     ensures { λ _. ⌜ now (notes .exit) ≡ groupCells groups counts (now (notes .entry)) ⌝ }
 {
-    let length = state::open_length(counts);
     let start = groups.paren;
-    if !start.noted {
-        return;
-    }
-    if length < start.length {
+    if !state::reaches(start, counts) {
         return;
     }
     notate_group(
         notes,
         closing,
-        counts.first + start.length,
-        length - start.length,
+        counts.first + start.from,
+        state::count_from(start, counts),
     );
 }
 

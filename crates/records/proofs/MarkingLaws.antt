@@ -1,5 +1,5 @@
 -- The markings on the note cells of a reading: `+`, `t`, `}` and `)` as the rules have them. Assumes nothing.
-use Prim.Native.Nat.{ℕ, suc, _+_, _-_, _*_, _≤_}
+use Prim.Native.Nat.{ℕ, suc, _+_, _-_, _*_}
 use native.Mathlib.Omega.{arith}
 use mathlib.Core.Path.{_≡_, refl, sym, ap, subst, _∙_}
 use mathlib.Core.Bool.{Bool, true, false, cond}
@@ -12,7 +12,7 @@ use Rattle.rules.specs.Limits.{noteSize, markCapacity}
 use Rattle.rules.specs.Values.{normalOf}
 use Rattle.rules.specs.Tokens.{tie, trill}
 use Rattle.rules.specs.Records.{Notations, Note, notesOf}
-use Rattle.rules.specs.Rules.{State, Group, endsInNote, isNonGrace, nonGraceIn, notesFrom, withTieStart, withBeam, withTuplet, withMark, Closing, fermata, tuplet, closed, closingOf, groupClosed, beamClosed, marked, withNotations}
+use Rattle.rules.specs.Rules.{Start, State, Group, endsInNote, isNonGrace, nonGraceIn, countFrom, notesFrom, withTieStart, withBeam, withTuplet, withMark, Closing, fermata, tuplet, closed, closingOf, groupClosed, beamClosed, marked, withNotations}
 use Rattle.rules.specs.Refusals.{isMarkedFull}
 use Rattle.rules.specs.Refusals as refusals
 use Rattle.rules.specs.Words.{cells, zeros, noteWords}
@@ -59,18 +59,18 @@ beam-read b zs ns = rw (count-read b zs (cells (wordsIn b) ns ++ zs) [] ns refl)
     go false = refl
 
 module _ (n : ℕ) (s : State) where
-  pub beam-stored : (start : ℕ) → start ≤ length (s .openBar)
-      → onPart (length (notesOf (s .bars)) + start) (λ part. beamed part (length (s .openBar) - start)) (notesIn n (s .openBar) (s .bars)) ≡ notesIn n (withNotations (beamClosed start s) 0 (s .openBar)) (s .bars)
+  pub beam-stored : (start : Start) → start .from + countFrom start s ≡ length (s .openBar)
+      → onPart (length (notesOf (s .bars)) + start .from) (λ part. beamed part (countFrom start s)) (notesIn n (s .openBar) (s .bars)) ≡ notesIn n (withNotations (beamClosed start s) 0 (s .openBar)) (s .bars)
   beam-stored start h =
-      part-changed n (s .openBar) (s .bars) start h (λ l. beamed l (length (s .openBar) - start)) (cond (ltb 1 total) (notatedBy beams part) part) (size (ltb 1 total))
-      (λ zs. ap (beamed (cells (wordsIn b) part ++ zs)) (sym (length-part n (s .openBar) (s .bars) start h)) ∙ beam-read b zs part)
+      part-changed n (s .openBar) (s .bars) (start .from) (countFrom start s) h (λ l. beamed l (countFrom start s)) (cond (ltb 1 total) (notatedBy beams part) part) (size (ltb 1 total))
+      (λ zs. ap (beamed (cells (wordsIn b) part ++ zs)) (sym (length-part n (s .openBar) (s .bars) (start .from) (countFrom start s) h)) ∙ beam-read b zs part)
       ∙ ap (λ (l : List Note). notesIn n l (s .bars)) (done (ltb 1 total) refl)
     where
       b : ℕ
       b = suc (length (s .bars))
 
       part : List Note
-      part = notesFrom start (s .openBar)
+      part = notesFrom start s
 
       total : ℕ
       total = nonGraceIn part
@@ -82,39 +82,39 @@ module _ (n : ℕ) (s : State) where
       size true = length-notated beams part
       size false = refl
 
-      done : (c : Bool) → ltb 1 total ≡ c → cond c (notatedBy beams part) part ++ drop (length (s .openBar) - start) (s .openBar) ≡ withNotations (beamClosed start s) 0 (s .openBar)
+      done : (c : Bool) → ltb 1 total ≡ c → cond c (notatedBy beams part) part ++ drop (countFrom start s) (s .openBar) ≡ withNotations (beamClosed start s) 0 (s .openBar)
       done true e = sym (withNotations-beam start s (ltb-true 1 total e))
-      done false e = take-append-drop (length (s .openBar) - start) (s .openBar) ∙ sym (withNotations-few start s (ltb-false 1 total e))
+      done false e = take-append-drop (countFrom start s) (s .openBar) ∙ sym (withNotations-few start s (ltb-false 1 total e))
 
   -- ---- `)`
 
-  module _ (g : Group) (h : g .start ≤ length (s .openBar)) where
+  module _ (g : Group) (h : g .start .from + countFrom (g .start) s ≡ length (s .openBar)) where
     abbrev part : List Note
-    part = notesFrom (g .start) (s .openBar)
+    part = notesFrom (g .start) s
 
     abbrev count : ℕ
-    count = length (s .openBar) - g .start
+    count = countFrom (g .start) s
 
     abbrev lent : List ℤ
-    lent = drop ((length (notesOf (s .bars)) + g .start) * noteSize) (notesIn n (s .openBar) (s .bars))
+    lent = drop ((length (notesOf (s .bars)) + g .start .from) * noteSize) (notesIn n (s .openBar) (s .bars))
 
     -- a step that gives the part what the group closes to
     closed-stored : (f : List ℤ → ℕ → List ℤ) (c : Closing) → closingOf g s ≡ c
         → ((zs : List ℤ) → f (cells (wordsIn (suc (length (s .bars)))) part ++ zs) (length part) ≡ cells (wordsIn (suc (length (s .bars)))) (notatedBy (λ k. closed c) part) ++ zs)
-        → onPart (length (notesOf (s .bars)) + g .start) (λ l. f l count) (notesIn n (s .openBar) (s .bars)) ≡ notesIn n (withNotations (groupClosed g s) 0 (s .openBar)) (s .bars)
+        → onPart (length (notesOf (s .bars)) + g .start .from) (λ l. f l count) (notesIn n (s .openBar) (s .bars)) ≡ notesIn n (withNotations (groupClosed g s) 0 (s .openBar)) (s .bars)
     closed-stored f c e says =
-        part-changed n (s .openBar) (s .bars) (g .start) h (λ l. f l count) (notatedBy (λ k. closed c) part) (length-notated (λ k. closed c) part)
-        (λ zs. ap (f (cells (wordsIn (suc (length (s .bars)))) part ++ zs)) (sym (length-part n (s .openBar) (s .bars) (g .start) h)) ∙ says zs)
+        part-changed n (s .openBar) (s .bars) (g .start .from) (countFrom (g .start) s) h (λ l. f l count) (notatedBy (λ k. closed c) part) (length-notated (λ k. closed c) part)
+        (λ zs. ap (f (cells (wordsIn (suc (length (s .bars)))) part ++ zs)) (sym (length-part n (s .openBar) (s .bars) (g .start .from) (countFrom (g .start) s) h)) ∙ says zs)
         ∙ ap (λ (l : List Note). notesIn n l (s .bars)) (sym (withNotations-group g s ∙ ap (λ (c : Closing). notatedBy (λ k. closed c) part ++ drop count (s .openBar)) e))
 
     pub tuplet-stored : (actual : ℕ) → closingOf g s ≡ tuplet actual
-        → onPart (length (notesOf (s .bars)) + g .start) (λ l. walked (notatedWords (Tuplet actual (normalOf actual))) l (length (s .openBar) - g .start) .0) (notesIn n (s .openBar) (s .bars))
+        → onPart (length (notesOf (s .bars)) + g .start .from) (λ l. walked (notatedWords (Tuplet actual (normalOf actual))) l (countFrom (g .start) s) .0) (notesIn n (s .openBar) (s .bars))
         ≡ notesIn n (withNotations (groupClosed g s) 0 (s .openBar)) (s .bars)
     tuplet-stored actual e = closed-stored (λ l k. walked (notatedWords (Tuplet actual (normalOf actual))) l k .0) (tuplet actual) e
         (λ zs. walked-read (suc (length (s .bars))) zs (notatedWords (Tuplet actual (normalOf actual))) (λ k. withTuplet actual) (λ k x. refl) (cells (wordsIn (suc (length (s .bars)))) part ++ zs) [] part refl .0)
 
     pub fermata-stored : closingOf g s ≡ fermata
-        → onPart (length (notesOf (s .bars)) + g .start) (λ l. fermataIn l (length (s .openBar) - g .start)) (notesIn n (s .openBar) (s .bars))
+        → onPart (length (notesOf (s .bars)) + g .start .from) (λ l. fermataIn l (countFrom (g .start) s)) (notesIn n (s .openBar) (s .bars))
         ≡ notesIn n (withNotations (groupClosed g s) 0 (s .openBar)) (s .bars)
     fermata-stored e = closed-stored fermataIn fermata e
         (λ zs. fermata-read (suc (length (s .bars))) zs (cells (wordsIn (suc (length (s .bars)))) part ++ zs) [] part refl (fermata-one (nonGraceIn part) (g .count) e))
@@ -128,20 +128,20 @@ module _ (n : ℕ) (s : State) where
         let one = fermata-one (nonGraceIn part) (g .count) e in
         let there = last-read b zs Q is (cells (wordsIn b) part ++ zs) [] part (drop count (s .openBar)) refl (omega arith) in
         let here : recordAt noteSize (cells (wordsIn b) part ++ zs) (lastNonGrace (cells (wordsIn b) part ++ zs) (length part)) ≡ recordAt noteSize lent (lastNonGrace lent count) =
-        λ i. let l = sym (part-cells n (s .openBar) (s .bars) (g .start) h) i in recordAt noteSize l (lastNonGrace l (length-part n (s .openBar) (s .bars) (g .start) h i)) in
+        λ i. let l = sym (part-cells n (s .openBar) (s .bars) (g .start .from) (countFrom (g .start) s) h) i in recordAt noteSize l (lastNonGrace l (length-part n (s .openBar) (s .bars) (g .start .from) (countFrom (g .start) s) h i)) in
         subst (λ (w : List ℤ). Q (refusals.lastNonGrace (s .openBar)) w) here
         (subst (λ (l : List Note). Q (refusals.lastNonGrace l) (recordAt noteSize (cells (wordsIn b) part ++ zs) (lastNonGrace (cells (wordsIn b) part ++ zs) (length part)))) (take-append-drop count (s .openBar)) there)
 
     -- refusal 10, and room where it does not stop the reading
-    pub fermata-full : closingOf g s ≡ fermata → isMarkedFull (refusals.lastNonGrace (s .openBar)) ≡ leb markCapacity (numberAt markCountAt (recordAt noteSize lent (lastNonGrace lent (length (s .openBar) - g .start))))
+    pub fermata-full : closingOf g s ≡ fermata → isMarkedFull (refusals.lastNonGrace (s .openBar)) ≡ leb markCapacity (numberAt markCountAt (recordAt noteSize lent (lastNonGrace lent (countFrom (g .start) s))))
     fermata-full e = fermata-last e (λ ns w. isMarkedFull ns ≡ leb markCapacity (numberAt markCountAt w)) (λ x t. refl)
 
-    pub fermata-room : closingOf g s ≡ fermata → isMarkedFull (refusals.lastNonGrace (s .openBar)) ≡ false → HasRoom (recordAt noteSize lent (lastNonGrace lent (length (s .openBar) - g .start)))
+    pub fermata-room : closingOf g s ≡ fermata → isMarkedFull (refusals.lastNonGrace (s .openBar)) ≡ false → HasRoom (recordAt noteSize lent (lastNonGrace lent (countFrom (g .start) s)))
     fermata-room e r = fermata-last e (λ ns w. isMarkedFull ns ≡ false → HasRoom w) (λ x t. has-room (suc (length (s .bars))) x) r
 
 -- a `)` that closes to nothing or too few changes no record
 pub unclosed : (g : Group) (s : State) → ((d : Notations) → closed (closingOf g s) d ≡ d) → withNotations (groupClosed g s) 0 (s .openBar) ≡ s .openBar
-unclosed g s same = withNotations-group g s ∙ rw (go (notesFrom (g .start) (s .openBar)), take-append-drop)
+unclosed g s same = withNotations-group g s ∙ rw (go (notesFrom (g .start) s), take-append-drop)
   where
     go : (l : List Note) → notatedBy (λ k. closed (closingOf g s)) l ≡ l
     go [] = refl

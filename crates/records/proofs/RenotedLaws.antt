@@ -11,7 +11,7 @@ use lib.Seq.{take-at, take-nil, drop-nil, take-append-add}
 use lib.Dec.{eqb, ltb}
 use borrow.Author.Tests.{eq-eqb, ne-eqb, lt-ltb, le-ltb, ltb-true, ltb-false}
 use Rattle.rules.specs.Records.{Notations, Note}
-use Rattle.rules.specs.Rules.{State, Group, isNonGrace, nonGraceIn, notesFrom, withBeam, closing, closed, closingOf, fermata, tuplet, tooFew, groupClosed, beamClosed, withNotations}
+use Rattle.rules.specs.Rules.{Start, State, Group, isNonGrace, nonGraceIn, countFrom, notesFrom, withBeam, closing, closed, closingOf, fermata, tuplet, tooFew, groupClosed, beamClosed, withNotations}
 use Rattle.records.specs.Groups.{beamNumber}
 use Rattle.records.proofs.GroupLaws.{renoted, notatedBy}
 
@@ -56,8 +56,8 @@ and-false true = refl
 and-false false = refl
 
 pub withNotations-group : (g : Group) (s : State) → withNotations (groupClosed g s) 0 (s .openBar)
-    ≡ notatedBy (λ k. closed (closingOf g s)) (notesFrom (g .start) (s .openBar)) ++ drop (length (s .openBar) - g .start) (s .openBar)
-withNotations-group g s = let m = length (s .openBar) - g .start in
+    ≡ notatedBy (λ k. closed (closingOf g s)) (notesFrom (g .start) s) ++ drop (countFrom (g .start) s) (s .openBar)
+withNotations-group g s = let m = countFrom (g .start) s in
     withNotations-part m (s .openBar) (groupClosed g s) (λ k. closed (closingOf g s))
     (λ p x l e h. rw (lt-ltb (length p) m h, and-true (isNonGrace x)))
     (λ i x h. rw (le-ltb i m h, and-false (isNonGrace x)))
@@ -89,12 +89,12 @@ ends-agree (suc j) zero total e h = rw (ne-eqb (suc j) 0 (λ z. omega arith), eq
 ends-agree zero (suc k) total e h = rw (ne-eqb (suc k) 0 (λ z. omega arith), eq-eqb (suc k + 1) total (omega arith))
 ends-agree (suc j) (suc k) total e h = rw (ne-eqb (suc j) 0 (λ z. omega arith), ne-eqb (suc k) 0 (λ z. omega arith), ne-eqb (suc (suc j)) total (λ z. omega arith), ne-eqb (suc k + 1) total (λ z. omega arith))
 
-pub withNotations-beam : (start : ℕ) (s : State) → let part = notesFrom start (s .openBar) in 1 < nonGraceIn part
-    → withNotations (beamClosed start s) 0 (s .openBar) ≡ notatedBy (λ k. withBeam (beamNumber k (nonGraceIn part))) part ++ drop (length (s .openBar) - start) (s .openBar)
+pub withNotations-beam : (start : Start) (s : State) → let part = notesFrom start s in 1 < nonGraceIn part
+    → withNotations (beamClosed start s) 0 (s .openBar) ≡ notatedBy (λ k. withBeam (beamNumber k (nonGraceIn part))) part ++ drop (countFrom start s) (s .openBar)
 withNotations-beam start s h = withNotations-part m (s .openBar) (beamClosed start s) (λ k. withBeam (beamNumber k total)) inside (λ i x k. rw (le-ltb i m k, and-false (isNonGrace x)))
   where
     m : ℕ
-    m = length (s .openBar) - start
+    m = countFrom start s
 
     total : ℕ
     total = nonGraceIn (take m (s .openBar))
@@ -117,9 +117,9 @@ withNotations-beam start s h = withNotations-part m (s .openBar) (beamClosed sta
         go false q = refl
 
 -- fewer than two are not beamed
-pub withNotations-few : (start : ℕ) (s : State) → nonGraceIn (notesFrom start (s .openBar)) ≤ 1 → withNotations (beamClosed start s) 0 (s .openBar) ≡ s .openBar
+pub withNotations-few : (start : Start) (s : State) → nonGraceIn (notesFrom start s) ≤ 1 → withNotations (beamClosed start s) 0 (s .openBar) ≡ s .openBar
 withNotations-few start s h = go 0 (s .openBar)
   where
     go : (i : ℕ) (l : List Note) → withNotations (beamClosed start s) i l ≡ l
     go i [] = refl
-    go i (x ∷ l) = rw (le-ltb 1 (nonGraceIn (notesFrom start (s .openBar))) h, and-false, go (suc i) l)
+    go i (x ∷ l) = rw (le-ltb 1 (nonGraceIn (notesFrom start s)) h, and-false, go (suc i) l)

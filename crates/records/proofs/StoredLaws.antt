@@ -7,7 +7,7 @@ use lib.IntN.{ℤ, pos}
 use lib.ListN.{length, getD, take, drop, length-append, length-map, length-drop, length-take, take-append-drop}
 use Rattle.rules.specs.Limits.{noteSize}
 use Rattle.rules.specs.Records.{Note, Bar, notesOf}
-use Rattle.rules.specs.Rules.{notesFrom, copied, nonGraceIn}
+use Rattle.rules.specs.Rules.{copied, nonGraceIn}
 use Rattle.rules.specs.Words.{cells, zeros, padded, Numbered, noteWords, inBar, numbered}
 use Rattle.records.specs.Cells.{written, withRecord, changed}
 use Rattle.records.specs.Copies.{copies}
@@ -74,22 +74,22 @@ module _ (n : ℕ) (ns : List Note) (bars : List Bar) where
       rw (copies-notes, ← length-stored ns bars, in-bar-append (suc (length bars)) (map (copied place) held) ns, append-assoc)
       (padded-extended noteWords noteSize length-note n (inBar (suc (length bars)) (map (copied place) held)) (storedIn ns bars) (rw (length-stored ns bars, length-in-bar, length-map) h))
 
-  -- ---- the open bar's notes from a length on
+  -- ---- the open bar's m latest notes, behind `start` others
 
-  module _ (start : ℕ) (h : start ≤ length ns) where
+  module _ (start m : ℕ) (h : start + m ≡ length ns) where
     abbrev b : ℕ
     b = suc (length bars)
 
     abbrev part : List Note
-    part = notesFrom start ns
+    part = take m ns
 
     abbrev before : List Numbered
-    before = inBar b (drop (length ns - start) ns) ++ numbered bars
+    before = inBar b (drop m ns) ++ numbered bars
 
     split : storedIn ns bars ≡ inBar b part ++ before
-    split = ap (λ (l : List Note). inBar b l ++ numbered bars) (sym (take-append-drop (length ns - start) ns)) ∙ rw (in-bar-append, append-assoc)
+    split = ap (λ (l : List Note). inBar b l ++ numbered bars) (sym (take-append-drop m ns)) ∙ rw (in-bar-append, append-assoc)
 
-    pub length-part : length part ≡ length ns - start
+    pub length-part : length part ≡ m
     length-part = rw length-take (omega arith)
 
     length-before : length before ≡ length (notesOf bars) + start
@@ -102,21 +102,21 @@ module _ (n : ℕ) (ns : List Note) (bars : List Bar) where
         (λ i. drop (sym length-before i * noteSize) (cells noteWords (split i) ++ zs)) ∙ part-read noteWords noteSize length-note (inBar b part) before zs ∙ rw (cells-in-bar b part)
 
     -- the figure that the second `!` takes
-    pub figure-taken : take ((length ns - start) * noteSize) (drop ((length (notesOf bars) + start) * noteSize) (notesIn n ns bars)) ≡ cells noteWords (inBar b part)
+    pub figure-taken : take (m * noteSize) (drop ((length (notesOf bars) + start) * noteSize) (notesIn n ns bars)) ≡ cells noteWords (inBar b part)
     figure-taken =
         let zs = zeros (n - length (cells noteWords (storedIn ns bars))) in
-        let m : length ns - start ≡ length (inBar b part) = sym length-part ∙ sym (length-in-bar b part) in
-        (λ i. take (m i * noteSize) (drop (sym length-before i * noteSize) (cells noteWords (split i) ++ zs))) ∙ part-words noteWords noteSize length-note (inBar b part) before zs
+        let size : m ≡ length (inBar b part) = sym length-part ∙ sym (length-in-bar b part) in
+        (λ i. take (size i * noteSize) (drop (sym length-before i * noteSize) (cells noteWords (split i) ++ zs))) ∙ part-words noteWords noteSize length-note (inBar b part) before zs
 
     -- its non-grace records
-    pub part-timed : timedCount (drop ((length (notesOf bars) + start) * noteSize) (notesIn n ns bars)) (length ns - start) ≡ nonGraceIn part
+    pub part-timed : timedCount (drop ((length (notesOf bars) + start) * noteSize) (notesIn n ns bars)) m ≡ nonGraceIn part
     part-timed =
         let zs = zeros (n - length (cells noteWords (storedIn ns bars))) in
         (λ i. timedCount (part-cells i) (sym length-part i)) ∙ count-read b zs (cells (wordsIn b) part ++ zs) [] part refl
 
     -- a step on it
     pub part-changed : (f : List ℤ → List ℤ) (after : List Note) → length after ≡ length part → ((zs : List ℤ) → f (cells (wordsIn b) part ++ zs) ≡ cells (wordsIn b) after ++ zs)
-        → onPart (length (notesOf bars) + start) f (notesIn n ns bars) ≡ notesIn n (after ++ drop (length ns - start) ns) bars
+        → onPart (length (notesOf bars) + start) f (notesIn n ns bars) ≡ notesIn n (after ++ drop m ns) bars
     part-changed f after e says =
         (λ i. onPart (sym length-before i) f (padded n (cells noteWords (split i))))
         ∙ padded-part noteWords noteSize length-note n f (inBar b part) (inBar b after) before (rw (length-in-bar, length-in-bar, e)) (λ zs. rw (cells-in-bar, cells-in-bar) (says zs))

@@ -19,13 +19,13 @@ use Rattle.decode.specs.declared.Marking.{Marking}
 use Rattle.decode.specs.declared.Marking.the-variants as m
 use Rattle.decode.specs.declared.Token.{Token}
 use Rattle.decode.specs.declared.Token.the-variants as t
-use Rattle.steps.specs.State.{hasContent, openLength}
-use Rattle.steps.specs.Relation.{Voiced, Grouped, countIn}
+use Rattle.steps.specs.State.{hasContent}
+use Rattle.steps.specs.Relation.{Voiced, startOf, Grouped, countIn}
 use Rattle.remarks.specs.Remarks.{figureFound, markingFound, tokenFound}
 
 -- the group that an open `(` began
 abbrev pub openGroup : Groups → Group
-openGroup g = record { start = g .paren .length; count = countIn (g .count) }
+openGroup g = record { start = startOf (g .paren); count = countIn (g .count) }
 
 -- ---- what is noted or not
 
@@ -54,12 +54,12 @@ module _
     (voiced : Voiced (st .voice) s)
     (grouped : Grouped (st .groups) s)
     (content : hasContent (st .counts) ≡ not (isEmpty (s .openBar)))
-    (measured : openLength (st .counts) ≡ length (s .openBar))
+    (numbered : st .counts .bars ≡ length (s .bars))
     (figured : eqb (st .figure) 0 ≡ isEmpty (s .figure))
     (barred : eqb (st .counts .bars) 0 ≡ isEmpty (s .bars))
     (ended : ends ≡ endsInNote (s .openBar)) where
   figures-agree : (figure : Figure) → figureFound figure st x ≡ figureDiagnosed x s (figureIn figure)
-  figures-agree f.Mark = rw (grouped .figure, measured) (given-noted (st .groups .figure .noted) _ _ _ (λ e. refl))
+  figures-agree f.Mark = rw (grouped .figure, numbered) (given-noted (st .groups .figure .noted) _ _ _ (λ e. refl))
   figures-agree f.Repeat = rw figured
   figures-agree f.Bar = rw (content, barred, not-not (isEmpty (s .openBar)))
 
@@ -69,7 +69,7 @@ module _
   markings-agree m.BeamClose closes = refl
   markings-agree m.GroupOpen closes = refl
   markings-agree m.GroupCount closes = rw (grouped .paren, ← isSome-noted (st .groups .paren .noted) (openGroup (st .groups)))
-  markings-agree m.GroupClose closes = rw (grouped .paren, measured) (given-noted (st .groups .paren .noted) (openGroup (st .groups)) _ (groupDiagnosed x s) (λ e. rw (closes refl e)))
+  markings-agree m.GroupClose closes = rw (grouped .paren, numbered) (given-noted (st .groups .paren .noted) (openGroup (st .groups)) _ (groupDiagnosed x s) (λ e. rw (closes refl e)))
   markings-agree m.Tie closes = rw ended
   markings-agree m.Trill closes = rw content
 

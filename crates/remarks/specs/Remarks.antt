@@ -3,7 +3,7 @@ use Prim.Native.Nat.{ℕ, _+_, _-_, _<_}
 use mathlib.Core.Bool.{Bool, not, cond, _&&_, _||_}
 use mathlib.Core.List.{List, [], _∷_}
 use lib.ListN.{take, drop, getD}
-use lib.Dec.{eqb, leb, ltb}
+use lib.Dec.{eqb}
 use mathlib.Core.Option.{Option}
 use Rattle.rules.specs.Values.{Clef, Key, Meter, clefOf, keyOf, meterOf, countOf}
 use Rattle.rules.specs.Tokens as rules
@@ -24,7 +24,7 @@ use Rattle.decode.specs.declared.Marking.{Marking}
 use Rattle.decode.specs.declared.Marking.the-variants as m
 use Rattle.decode.specs.declared.Token.{Token}
 use Rattle.decode.specs.declared.Token.the-variants as t
-use Rattle.steps.specs.State.{hasContent, openLength}
+use Rattle.steps.specs.State.{hasContent}
 use Rattle.remarks.specs.declared.Span.{Span}
 
 -- ---- where a token stands
@@ -77,14 +77,14 @@ meterFound content value x = cond content (after 3 x ∷ []) (meterDiagnosed (he
 abbrev pub octaveFound : Octave → rules.Item → List Diagnostic
 octaveFound octave x = unless (isSome (octaveIn octave)) (whole 8 x)
 
--- the second `!` in a bar now shorter, d17
-abbrev pub markFound : Start → ℕ → rules.Item → List Diagnostic
-markFound figure length x = cond (figure .noted) (unless (leb (figure .length) length) (whole 17 x)) []
+-- the second `!` in a later bar, d17
+abbrev pub markFound : Start → Counts → rules.Item → List Diagnostic
+markFound figure c x = cond (figure .noted) (unless (eqb (figure .bar) (c .bars)) (whole 17 x)) []
 
 -- `f` of an empty figure, d18; `i` not in an empty bar after a stored one, d19
 abbrev pub figureFound : Figure → Pae → rules.Item → List Diagnostic
 figureFound figure st x = elim figure [
-  | f.Mark ↦ markFound (st .groups .figure) (openLength (st .counts)) x
+  | f.Mark ↦ markFound (st .groups .figure) (st .counts) x
   | f.Repeat ↦ unless (not (eqb (st .figure) 0)) (whole 18 x)
   | f.Bar ↦ unless (not (hasContent (st .counts)) && not (eqb (st .counts .bars) 0)) (whole 19 x)
 ]
@@ -93,9 +93,9 @@ figureFound figure st x = elim figure [
 abbrev pub countFound : Bool → Option ℕ → rules.Item → List Diagnostic
 countFound noted count x = unless (noted && isSome count) (after 12 x)
 
--- `)` without `(`, d13; start beyond the bar's length, d10; else what the group closes to
+-- `)` without `(`, d13; closed in a later bar, d10; else what the group closes to
 abbrev pub groupFound : Groups → Counts → Closing → rules.Item → List Diagnostic
-groupFound g c closing x = cond (g .paren .noted) (cond (ltb (openLength c) (g .paren .length)) (diagnostic 10 (here x) parentheses ∷ []) (closingDiagnosed x closing)) (whole 13 x ∷ [])
+groupFound g c closing x = cond (g .paren .noted) (cond (eqb (g .paren .bar) (c .bars)) (closingDiagnosed x closing) (diagnostic 10 (here x) parentheses ∷ [])) (whole 13 x ∷ [])
 
 -- `+` after no note or grace, d16; `t` in a bar without a record, d14
 abbrev pub markingFound : Marking → List ℕ → Pae → Bool → Closing → rules.Item → List Diagnostic

@@ -24,7 +24,6 @@ use records::diagnostic::at_data;
 use records::diagnostic::at_data_number;
 use records::diagnostic::at_data_parentheses;
 use records::group::Closing;
-use steps::state::open_length;
 use text::Count;
 use values::attributes::ClefValue;
 use values::attributes::Key;
@@ -125,13 +124,13 @@ pub fn meter_remarks(content: bool, value: Meter, span: Span) -> Found
     meter_found(Where::Data(place), from, end, value)
 }
 
-// The second `!` in a bar now shorter, d17.
-pub fn mark_found(figure: Start, length: usize, span: Span) -> Found
+// The second `!` in a later bar, d17.
+pub fn mark_found(figure: Start, counts: Counts, span: Span) -> Found
     requires { ⌜ SpanFits span ⌝ }
-    ensures { λ r. ⌜ foundIn r ≡ map diagnosticWords (markFound figure length (itemIn span)) ⌝ }
+    ensures { λ r. ⌜ foundIn r ≡ map diagnosticWords (markFound figure counts (itemIn span)) ⌝ }
 {
     if figure.noted {
-        return unless(figure.length <= length, 17, span);
+        return unless(figure.bar == counts.bars, 17, span);
     }
     Found::Nothing
 }
@@ -167,17 +166,17 @@ fn closing_found(closing: Closing, span: Span) -> Found
     }
 }
 
-// `)` without `(`, d13; start beyond the bar's length, d10; else what the group closes to.
+// `)` without `(`, d13; closed in a later bar, d10; else what the group closes to.
 pub fn group_found(groups: Groups, counts: Counts, closing: Closing, span: Span) -> Found
-    requires { ⌜ SpanFits span × (counts .first ≤ counts .notes) ⌝ }
+    requires { ⌜ SpanFits span ⌝ }
     ensures { λ r. ⌜ foundIn r ≡ map diagnosticWords (groupFound groups counts (closingOf closing) (itemIn span)) ⌝ }
 {
     let paren = groups.paren;
     if paren.noted {
-        if open_length(counts) < paren.length {
-            return Found::One(at_data_parentheses(10, span.place));
+        if paren.bar == counts.bars {
+            return closing_found(closing, span);
         }
-        return closing_found(closing, span);
+        return Found::One(at_data_parentheses(10, span.place));
     }
     whole(13, span)
 }

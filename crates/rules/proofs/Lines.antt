@@ -1,4 +1,4 @@
--- 01's 'Lines to prove, lines to dodge', over the bytes, as one statement; lines for its mistakes to rule out; lines of characters (02, R-1) and of whole-bar rests (R-2); and lines for slips in single rules.
+-- 01's 'Lines to prove, lines to dodge', over the bytes, as one statement; lines for its mistakes to rule out; lines of characters (02, R-1) and of whole-bar rests (R-2) and of groups over a barline (R-4); and lines for slips in single rules.
 -- Each holds for every lent size that suffices. Assumes nothing.
 use Prim.Native.Nat.{ℕ, zero, suc, _*_, _≤_}
 use mathlib.Core.Path.{_≡_, refl, ap}
@@ -55,6 +55,9 @@ dots = column 3
 
 abbrev ties : Reading → List ℤ
 ties = column 4
+
+abbrev beams : Reading → List ℤ
+beams = column 5
 
 abbrev actuals : Reading → List ℤ
 actuals = column 6
@@ -397,6 +400,63 @@ whole-bars = record {
   copied-figure = λ lent h. ap kinds (reads _ h tt);
   most = refl;
   checked = turned-all;
+}
+
+-- ---- groups over a barline
+
+pub record LaterBars : Type 0 where
+  -- closed in a later bar, `(` always gives d10: no tuplet, no fermata
+  pub group : (lent : Lent) → Suffices 5 2 0 lent → diagnosed (reading (bytes "C(D/EFG)") lent) ≡ these (10 ∷ 3 ∷ 8 ∷ 2 ∷ 0 ∷ 0 ∷ []) ∷ []
+  pub no-tuplet : (lent : Lent) → Suffices 5 2 0 lent → actuals (reading (bytes "C(D/EFG)") lent) ≡ these (0 ∷ 0 ∷ 0 ∷ 0 ∷ 0 ∷ [])
+  pub no-fermata : (lent : Lent) → Suffices 2 2 0 lent → markCounts (reading (bytes "(C/D)") lent) ≡ these (0 ∷ 0 ∷ [])
+  pub group-empty : (lent : Lent) → Suffices 1 1 0 lent → diagnosed (reading (bytes "(C/)") lent) ≡ these (10 ∷ 3 ∷ 4 ∷ 2 ∷ 0 ∷ 0 ∷ []) ∷ []
+  -- `;` still sets the count; d10 uses up the start
+  pub count : (lent : Lent) → Suffices 2 1 0 lent → diagnosed (reading (bytes "C(D/;5)") lent) ≡ these (10 ∷ 3 ∷ 7 ∷ 2 ∷ 0 ∷ 0 ∷ []) ∷ []
+  pub used-up : (lent : Lent) → Suffices 3 2 0 lent → diagnosed (reading (bytes "(C/D)E)") lent) ≡ these (10 ∷ 3 ∷ 5 ∷ 2 ∷ 0 ∷ 0 ∷ []) ∷ these (13 ∷ 3 ∷ 7 ∷ 1 ∷ 6 ∷ 7 ∷ []) ∷ []
+  -- a barline in an empty bar starts no later one
+  pub same-bar : (lent : Lent) → Suffices 3 1 0 lent → actuals (reading (bytes "(/CDE)") lent) ≡ these (3 ∷ 3 ∷ 3 ∷ [])
+  pub same-bar-beam : (lent : Lent) → Suffices 2 1 0 lent → beams (reading (bytes "{/DE}") lent) ≡ these (1 ∷ 3 ∷ [])
+  pub same-bar-figure : (lent : Lent) → Suffices 2 1 1 lent → places (reading (bytes "!/C!f") lent) ≡ these (3 ∷ 5 ∷ [])
+  -- `!` gives d17
+  pub figure : (lent : Lent) → Suffices 1 1 0 lent → diagnosed (reading (bytes "!C/!") lent) ≡ these (17 ∷ 3 ∷ 4 ∷ 1 ∷ 3 ∷ 4 ∷ []) ∷ []
+  -- it keeps the figure closed before and starts none; a closed figure lives on over barlines
+  pub figure-kept : (lent : Lent) → Suffices 4 2 1 lent → steps (reading (bytes "!C!!D/E!f") lent) ≡ these (0 ∷ 1 ∷ 2 ∷ 0 ∷ [])
+  pub figure-diagnosed : (lent : Lent) → Suffices 4 2 1 lent → diagnosed (reading (bytes "!C!!D/E!f") lent) ≡ these (17 ∷ 3 ∷ 8 ∷ 1 ∷ 7 ∷ 8 ∷ []) ∷ []
+  pub figure-on : (lent : Lent) → Suffices 2 2 1 lent → places (reading (bytes "!C!/f") lent) ≡ these (2 ∷ 5 ∷ [])
+  -- a beam is dropped silently
+  pub beam : (lent : Lent) → Suffices 3 2 0 lent → beams (reading (bytes "{C/DE}") lent) ≡ these (0 ∷ 0 ∷ 0 ∷ [])
+  pub silent : (lent : Lent) → Suffices 3 2 0 lent → diagnosed (reading (bytes "{C/DE}") lent) ≡ []
+  -- a barline between whole-bar rests starts a later bar
+  pub inner-group : (lent : Lent) → Suffices 2 2 0 lent → diagnosed (reading (bytes "(=2)") lent) ≡ these (10 ∷ 3 ∷ 4 ∷ 2 ∷ 0 ∷ 0 ∷ []) ∷ []
+  pub inner-figure : (lent : Lent) → Suffices 2 2 0 lent → diagnosed (reading (bytes "!=2!") lent) ≡ these (17 ∷ 3 ∷ 4 ∷ 1 ∷ 3 ∷ 4 ∷ []) ∷ []
+  pub inner-beam : (lent : Lent) → Suffices 4 2 0 lent → beams (reading (bytes "{=2CD}") lent) ≡ these (0 ∷ 0 ∷ 0 ∷ 0 ∷ [])
+  -- 10 and 11 are not checked: a note of 8 marks, no figure record
+  pub marks : (lent : Lent) → Suffices 2 2 0 lent → diagnosed (reading (bytes "(C/Dtttttttt)") lent) ≡ these (10 ∷ 3 ∷ 13 ∷ 2 ∷ 0 ∷ 0 ∷ []) ∷ []
+  pub none-lent : (lent : Lent) → Suffices 2 2 0 lent → diagnosed (reading (bytes "!C/D!") lent) ≡ these (17 ∷ 3 ∷ 5 ∷ 1 ∷ 4 ∷ 5 ∷ []) ∷ []
+
+pub later-bars : LaterBars
+unfolding formedSize formedAfter characterSize charactersIn codePoint isBlank nonBlanksSize tokenSize clefOf keyOf meterOf countOf wholeBarsOf patternOf tokenOf itemAt itemsAfter step stateAfter dataDiagnosed linesAfter fieldsAfter linesDiagnosed fieldsOf fieldsDiagnosed tokensRefusal refusalOf
+later-bars = record {
+  group = λ lent h. ap diagnosed (reads _ h tt);
+  no-tuplet = λ lent h. ap actuals (reads _ h tt);
+  no-fermata = λ lent h. ap markCounts (reads _ h tt);
+  group-empty = λ lent h. ap diagnosed (reads _ h tt);
+  count = λ lent h. ap diagnosed (reads _ h tt);
+  used-up = λ lent h. ap diagnosed (reads _ h tt);
+  same-bar = λ lent h. ap actuals (reads _ h tt);
+  same-bar-beam = λ lent h. ap beams (reads _ h tt);
+  same-bar-figure = λ lent h. ap places (reads _ h tt);
+  figure = λ lent h. ap diagnosed (reads _ h tt);
+  figure-kept = λ lent h. ap steps (reads _ h tt);
+  figure-diagnosed = λ lent h. ap diagnosed (reads _ h tt);
+  figure-on = λ lent h. ap places (reads _ h tt);
+  beam = λ lent h. ap beams (reads _ h tt);
+  silent = λ lent h. ap diagnosed (reads _ h tt);
+  inner-group = λ lent h. ap diagnosed (reads _ h tt);
+  inner-figure = λ lent h. ap diagnosed (reads _ h tt);
+  inner-beam = λ lent h. ap beams (reads _ h tt);
+  marks = λ lent h. ap diagnosed (reads _ h tt);
+  none-lent = λ lent h. ap diagnosed (reads _ h tt);
 }
 
 -- ---- single rules

@@ -1,5 +1,5 @@
 -- More room changes no answer but a refusal for want of room. Assumes nothing.
-use Prim.Native.Nat.{ℕ, zero, suc, _+_, _-_, _*_, _≤_}
+use Prim.Native.Nat.{ℕ, zero, suc, _+_, _*_, _≤_}
 use native.Mathlib.Omega.{arith}
 use mir.Facts.{leb-yes, yes-leb}
 use mathlib.Core.Path.{_≡_, refl, ap}
@@ -14,7 +14,7 @@ use Rattle.rules.specs.Text.{among}
 use Rattle.rules.specs.Characters.{charactersIn}
 use Rattle.rules.specs.Tokens.{Figure, figureMark, figureRepeat, barRepeat, figureIn, isBarline, Token, Item}
 use Rattle.rules.specs.Records.{_or_, given, isEmpty}
-use Rattle.rules.specs.Rules.{State, Attributes, step, furtherBars, innerBarline, inTurn, stateAfter, stores, stored}
+use Rattle.rules.specs.Rules.{State, Attributes, countFrom, step, furtherBars, innerBarline, inTurn, stateAfter, stores, stored}
 use Rattle.rules.specs.Fields.{dataOf}
 use Rattle.rules.specs.Refusals.{LentRecords, Refusal, refusal, Check, firstFailing, textChecks, textRefusal, overFigure, overBars, tokenChecks, tokenRefusal, refusalAt, refusalInTurn, tokensRefusal, endRefusal, refusalOf}
 use Rattle.rules.specs.Reading.{Lent, lentRecords, attributesOf, tokensOf, accepted, refused, reading}
@@ -103,7 +103,7 @@ module _ (less more : LentRecords) (w : Within less more) where
   bars-eased s = eases-and (not (isEmpty (s .openBar))) (eases-leb (length (s .bars)) (w .bars))
 
   figure-eased : (s : State) (f : Figure) → Eases (overFigure (less .figure) f s) (overFigure (more .figure) f s)
-  figure-eased s figureMark = eases-given (s .figureStart) (λ start. eases-and (leb start (length (s .openBar))) (eases-ltb (length (s .openBar) - start) (w .figure)))
+  figure-eased s figureMark = eases-given (s .figureStart) (λ start. eases-ltb (countFrom start s) (w .figure))
   figure-eased s figureRepeat = record { holds = λ h. h }
   figure-eased s barRepeat = record { holds = λ h. h }
 

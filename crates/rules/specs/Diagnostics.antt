@@ -3,13 +3,11 @@ use Prim.Native.Nat.{ℕ, _+_}
 use mathlib.Core.Bool.{Bool, not, _&&_, _||_}
 use mathlib.Core.Option.{Option}
 use mathlib.Core.List.{List, [], _∷_, _++_}
-use lib.ListN.{length}
-use lib.Dec.{leb, ltb}
 use Rattle.rules.specs.Text.{if_then_else_}
 use Rattle.rules.specs.Values.{Clef, Key, Meter}
 use Rattle.rules.specs.Tokens.{Figure, figureMark, figureRepeat, barRepeat, Marking, beamOpen, beamClose, groupOpen, groupClose, groupCount, tie, trill, Other, blank, colon, unknown, wholeBars, Token, clef, key, meter, octave, duration, accidental, letter, chord, rest, barline, grace, graceGroup, figure, marking, other, Item}
 use Rattle.rules.specs.Records.{isSome, given, isEmpty, Position, atData, Value, textPart, parentheses, number, Diagnostic}
-use Rattle.rules.specs.Rules.{State, Attributes, Group, Closing, nothing, fermata, tuplet, tooFew, closingOf, endsInNote, stateAfter}
+use Rattle.rules.specs.Rules.{State, Attributes, Group, Closing, nothing, fermata, tuplet, tooFew, inItsBar, closingOf, endsInNote, stateAfter}
 
 abbrev pub diagnostic : ℕ → Position → Value → Diagnostic
 diagnostic d position value = record { number = d; position = position; value = value }
@@ -56,9 +54,9 @@ module _ (x : Item) where
   closingDiagnosed (tuplet actual) = []
   closingDiagnosed (tooFew actual) = diagnostic 11 here (number actual) ∷ []
 
-  -- start beyond the bar's length, d10
+  -- closed in a later bar, d10
   abbrev pub groupDiagnosed : State → Group → List Diagnostic
-  groupDiagnosed s g = if ltb (length (s .openBar)) (g .start) then diagnostic 10 here parentheses ∷ [] else closingDiagnosed (closingOf g s)
+  groupDiagnosed s g = if inItsBar (g .start) s then closingDiagnosed (closingOf g s) else diagnostic 10 here parentheses ∷ []
 
   -- `;` without `(` or with other digits or none, d12; `)` without `(`, d13; `t` in a bar without a record, d14; `+` after no note or grace, d16
   abbrev pub markingDiagnosed : State → Marking → List Diagnostic
@@ -70,9 +68,9 @@ module _ (x : Item) where
   markingDiagnosed s trill = unless (not (isEmpty (s .openBar))) (diagnostic 14 here allOfIt)
   markingDiagnosed s tie = unless (endsInNote (s .openBar)) (diagnostic 16 here allOfIt)
 
-  -- the second `!` in a bar now shorter, d17; `f` of an empty figure, d18; `i` not in an empty bar after a stored one, d19
+  -- the second `!` in a later bar, d17; `f` of an empty figure, d18; `i` not in an empty bar after a stored one, d19
   abbrev pub figureDiagnosed : State → Figure → List Diagnostic
-  figureDiagnosed s figureMark = given (s .figureStart) [] (λ start. unless (leb start (length (s .openBar))) (diagnostic 17 here allOfIt))
+  figureDiagnosed s figureMark = given (s .figureStart) [] (λ start. unless (inItsBar start s) (diagnostic 17 here allOfIt))
   figureDiagnosed s figureRepeat = unless (not (isEmpty (s .figure))) (diagnostic 18 here allOfIt)
   figureDiagnosed s barRepeat = unless (isEmpty (s .openBar) && not (isEmpty (s .bars))) (diagnostic 19 here allOfIt)
 

@@ -1,5 +1,5 @@
 -- Where a reading can stop (01's table), in its order. Assumes nothing.
-use Prim.Native.Nat.{ℕ, zero, suc, _+_, _-_}
+use Prim.Native.Nat.{ℕ, zero, suc, _+_}
 use mathlib.Core.Bool.{Bool, true, false, not, _&&_}
 use mathlib.Core.Option.{Option, none, some}
 use mathlib.Core.List.{List, [], _∷_}
@@ -10,7 +10,7 @@ use Rattle.rules.specs.Text.{if_then_else_, Part}
 use Rattle.rules.specs.Characters.{isFormed, charactersIn, allBlank}
 use Rattle.rules.specs.Tokens.{Figure, figureMark, figureRepeat, barRepeat, Marking, beamOpen, beamClose, groupOpen, groupClose, groupCount, tie, trill, Token, Item, itemsOf, letterIn, isBarline, figureIn, markingIn}
 use Rattle.rules.specs.Records.{_or_, isSome, given, isEmpty, Note}
-use Rattle.rules.specs.Rules.{State, Attributes, Closing, nothing, fermata, tuplet, tooFew, closingOf, isNonGrace, stores, joins, step, furtherBars, innerBarline, inTurn, stateAfter, stored}
+use Rattle.rules.specs.Rules.{State, Attributes, Closing, nothing, fermata, tuplet, tooFew, countFrom, closingOf, isNonGrace, stores, joins, step, furtherBars, innerBarline, inTurn, stateAfter, stored}
 use Rattle.rules.specs.Fields.{fieldsOf, dataOf}
 
 -- how many whole records are lent for notes, bars and the figure, and how many diagnostic cells
@@ -85,7 +85,7 @@ overMarks (groupCount c) s = false
 
 -- 11: the figure passes the lent figure records
 abbrev pub overFigure : ℕ → Figure → State → Bool
-overFigure lent figureMark s = given (s .figureStart) false (λ start. leb start (length (s .openBar)) && ltb lent (length (s .openBar) - start))
+overFigure lent figureMark s = given (s .figureStart) false (λ start. ltb lent (countFrom start s))
 overFigure lent figureRepeat s = false
 overFigure lent barRepeat s = false
 

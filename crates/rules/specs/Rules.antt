@@ -7,7 +7,7 @@ use mathlib.Core.Option.{Option, none, some, Option·getD}
 use mathlib.Core.List.{List, [], _∷_, _++_, map}
 use lib.ListN.{length, take, getD}
 use lib.IntN.{ℤ, pos}
-use lib.Dec.{eqb, leb, ltb}
+use lib.Dec.{eqb, ltb}
 use Rattle.rules.specs.Text.{if_then_else_}
 use Rattle.rules.specs.Values.{Meter, Length, treble, quarter, eighth, element, normalOf}
 use Rattle.rules.specs.Tokens.{Figure, figureMark, figureRepeat, barRepeat, Marking, beamOpen, beamClose, groupOpen, groupClose, groupCount, tie, trill, Token, barline, Item, clefIn, keyIn, meterIn, octaveIn, durationIn, accidentalIn, letterIn, isChord, isRest, isBarline, rightIn, leftIn, graceIn, graceGroupIn, figureIn, markingIn, wholeBarsIn}
@@ -22,9 +22,14 @@ Accidentals = ℕ → ℕ → Option ℤ
 abbrev pub noAccidentals : Accidentals
 noAccidentals = λ step octave. none
 
--- an open `(`: the open bar's length at it, and the count that `;` set
+-- where a group, beam or figure starts: its bar, by the number of stored bars, and the open bar's length
+pub record Start : Type 0 where
+  pub bar : ℕ
+  pub from : ℕ
+
+-- an open `(`: its start, and the count that `;` set
 pub record Group : Type 0 where
-  pub start : ℕ
+  pub start : Start
   pub count : Option ℕ
 
 pub record State : Type 0 where
@@ -49,11 +54,11 @@ pub record State : Type 0 where
   -- the open bar's notes, the stored bars
   pub openBar : List Note
   pub bars : List Bar
-  -- the open bar's length at the first `!`; the figure
-  pub figureStart : Option ℕ
+  -- the start at the first `!`; the figure
+  pub figureStart : Option Start
   pub figure : List Note
-  -- the open bar's length at `{`; the open `(`
-  pub beamStart : Option ℕ
+  -- the start at `{`; the open `(`
+  pub beamStart : Option Start
   pub group : Option Group
   -- a tie waits for the next opened note
   pub tiePending : Bool
@@ -189,6 +194,24 @@ openedHeading s place = heading place (kindOf (s .pendingGrace) (s .graceGroup))
 abbrev pub steps : Token → State → Bool
 steps t s = isRest t || (opens t s && not (isGrace (s .pendingGrace) (s .graceGroup)))
 
+-- ---- starts of groups, beams and figures
+
+-- a start here
+abbrev pub startHere : State → Start
+startHere s = record { bar = length (s .bars); from = length (s .openBar) }
+
+-- the open bar is the start's own; a barline in an empty bar starts no later one
+abbrev pub inItsBar : Start → State → Bool
+inItsBar start s = eqb (start .bar) (length (s .bars))
+
+-- how many of the open bar's notes stand from a start on: in a later bar none
+abbrev pub countFrom : Start → State → ℕ
+countFrom start s = if inItsBar start s then length (s .openBar) - start .from else 0
+
+-- these notes, the latest
+abbrev pub notesFrom : Start → State → List Note
+notesFrom start s = take (countFrom start s) (s .openBar)
+
 -- ---- figures
 
 -- copies lose ties and get the `f` or `i` place; pitch places stay
@@ -211,19 +234,15 @@ repeated figureMark s = []
 repeated figureRepeat s = s .figure
 repeated barRepeat s = repeatedBar (s .openBar) (s .bars)
 
--- the first `!` notes the open bar's length, the second closes
-abbrev pub figureStartNext : Figure → State → Option ℕ
-figureStartNext figureMark s = given (s .figureStart) (some (length (s .openBar))) (λ start. none)
+-- the first `!` notes a start, the second closes
+abbrev pub figureStartNext : Figure → State → Option Start
+figureStartNext figureMark s = given (s .figureStart) (some (startHere s)) (λ start. none)
 figureStartNext figureRepeat s = s .figureStart
 figureStartNext barRepeat s = s .figureStart
 
--- the open bar's notes from a length on: the latest
-abbrev pub notesFrom : ℕ → List Note → List Note
-notesFrom start ns = take (length ns - start) ns
-
--- the second copies the notes from there into the figure, unless the bar is now shorter
+-- the second copies the notes from there into the figure, unless the bar is a later one
 abbrev pub figureNext : Figure → State → List Note
-figureNext figureMark s = given (s .figureStart) (s .figure) (λ start. if leb start (length (s .openBar)) then notesFrom start (s .openBar) else s .figure)
+figureNext figureMark s = given (s .figureStart) (s .figure) (λ start. if inItsBar start s then notesFrom start s else s .figure)
 figureNext figureRepeat s = s .figure
 figureNext barRepeat s = s .figure
 
@@ -309,16 +328,16 @@ closed (tooFew actual) d = d
 
 -- what the open `(` closes to
 abbrev pub closingOf : Group → State → Closing
-closingOf g s = closing (nonGraceIn (notesFrom (g .start) (s .openBar))) (g .count)
+closingOf g s = closing (nonGraceIn (notesFrom (g .start) s)) (g .count)
 
 -- `)`: the closing step gets only the open bar's notes from the group's start. `later` records stand after n
 abbrev pub groupClosed : Group → State → ℕ → Note → Notations
-groupClosed g s later n = if isNonGrace n && ltb later (length (s .openBar) - g .start) then closed (closingOf g s) (n .notations) else n .notations
+groupClosed g s later n = if isNonGrace n && ltb later (countFrom (g .start) s) then closed (closingOf g s) (n .notations) else n .notations
 
--- `}` beams the open bar's non-grace records from that length on, rests too, if two or more: the first 1, the last 3, those between 2
-abbrev pub beamClosed : ℕ → State → ℕ → Note → Notations
-beamClosed start s later n = let all = nonGraceIn (notesFrom start (s .openBar)) in let after = nonGraceIn (take later (s .openBar)) in
-    if isNonGrace n && ltb later (length (s .openBar) - start) && ltb 1 all then withBeam (if eqb after 0 then 3 else if eqb (suc after) all then 1 else 2) (n .notations) else n .notations
+-- `}` beams the open bar's non-grace records from its start on, rests too, if two or more: the first 1, the last 3, those between 2
+abbrev pub beamClosed : Start → State → ℕ → Note → Notations
+beamClosed start s later n = let all = nonGraceIn (notesFrom start s) in let after = nonGraceIn (take later (s .openBar)) in
+    if isNonGrace n && ltb later (countFrom start s) && ltb 1 all then withBeam (if eqb after 0 then 3 else if eqb (suc after) all then 1 else 2) (n .notations) else n .notations
 
 -- the notations of the open bar's record n, `later` records after it: `+` starts the tie of a last note, `t` marks the last record
 abbrev pub marked : Marking → State → ℕ → Note → Notations
@@ -338,9 +357,9 @@ abbrev pub withNotations : (ℕ → Note → Notations) → ℕ → List Note �
 withNotations f later [] = []
 withNotations f later (n ∷ ns) = record { heading = n .heading; pitches = n .pitches; notations = f later n } ∷ withNotations f (suc later) ns
 
--- `{` notes the open bar's length as a start; `}` uses it up
-abbrev pub beamStartNext : Marking → State → Option ℕ
-beamStartNext beamOpen s = some (length (s .openBar))
+-- `{` notes a start; `}` uses it up
+abbrev pub beamStartNext : Marking → State → Option Start
+beamStartNext beamOpen s = some (startHere s)
 beamStartNext beamClose s = none
 beamStartNext groupOpen s = s .beamStart
 beamStartNext groupClose s = s .beamStart
@@ -358,7 +377,7 @@ counted (some g) (some n) = some (record { start = g .start; count = some n })
 abbrev pub groupNext : Marking → State → Option Group
 groupNext beamOpen s = s .group
 groupNext beamClose s = s .group
-groupNext groupOpen s = some (record { start = length (s .openBar); count = none })
+groupNext groupOpen s = some (record { start = startHere s; count = none })
 groupNext groupClose s = none
 groupNext tie s = s .group
 groupNext trill s = s .group

@@ -13,17 +13,18 @@ use Rattle.rules.specs.Text.{every, isDigit}
 use Rattle.rules.specs.Values.{decimalFrom, countOf}
 use Rattle.rules.specs.Records.{given}
 use Rattle.rules.specs.Rules as rules
+use Rattle.limits.specs.declared.Counts.{Counts}
 use Rattle.limits.specs.declared.Groups.{Groups}
-use Rattle.limits.specs.Pae.{freshPae}
+use Rattle.limits.specs.Pae.{noStart, freshPae}
 use Rattle.decode.specs.declared.Figure.{Figure}
 use Rattle.decode.specs.declared.Figure.the-variants as f
 use Rattle.decode.specs.declared.Marking.{Marking}
 use Rattle.decode.specs.declared.Marking.the-variants as m
 use Rattle.decode.specs.declared.Token.{Token}
 use Rattle.decode.specs.declared.Token.the-variants as t
-use Rattle.steps.specs.State.{noStart, startAt, figureMarked}
+use Rattle.steps.specs.State.{startHere, figureMarked}
 use Rattle.steps.specs.Steps.{figureGroups, markingGroups, groupsNext}
-use Rattle.steps.specs.Relation.{startIn, Grouped}
+use Rattle.steps.specs.Relation.{startOf, startIn, Grouped}
 use Rattle.simulation.proofs.Items.{itemIn}
 
 -- ---- counts
@@ -47,7 +48,7 @@ count-of ds = by (ltb 0 (length ds)) (every isDigit ds) (leb (decimalFrom 0 ds) 
 -- ---- tokens
 
 -- the starts and the open group
-abbrev groupsOf : rules.State → Option ℕ × Option ℕ × Option rules.Group
+abbrev groupsOf : rules.State → Option rules.Start × Option rules.Start × Option rules.Group
 groupsOf s = (s .figureStart, s .beamStart, s .group)
 
 -- before any token nothing is noted
@@ -59,11 +60,11 @@ module _ {g : Groups} {s : rules.State} (w : Grouped g s) where
   kept : {s′ : rules.State} → groupsOf s′ ≡ groupsOf s → Grouped g s′
   kept e = record { figure = (λ i. e i .0) ∙ w .figure; beam = (λ i. e i .1) ∙ w .beam; paren = (λ i. e i .2) ∙ w .paren; count = w .count }
 
-  -- 'First `!` notes the open bar's length', the second closes
-  figure-marked : (n : ℕ) → n ≡ length (s .openBar) → given (s .figureStart) (some (length (s .openBar))) (λ start. none) ≡ startIn (figureMarked n g .figure)
-  figure-marked n e = rw (w .figure, ← e) (by (g .figure .noted))
+  -- 'First `!` notes the open bar's length', with its bar; the second closes
+  figure-marked : (c : Counts) → startOf (startHere c) ≡ rules.startHere s → given (s .figureStart) (some (rules.startHere s)) (λ start. none) ≡ startIn (figureMarked (startHere c) g .figure)
+  figure-marked c e = rw (w .figure, ← e) (by (g .figure .noted))
     where
-      by : (t : Bool) → given (cond t (some (g .figure .length)) none) (some n) (λ start. none) ≡ startIn (cond t noStart (startAt n))
+      by : (t : Bool) → given (cond t (some (startOf (g .figure))) none) (some (startOf (startHere c))) (λ start. none) ≡ startIn (cond t noStart (startHere c))
       by true = refl
       by false = refl
 
@@ -78,30 +79,30 @@ module _ {g : Groups} {s : rules.State} (w : Grouped g s) where
       by true p (some n) h e = record { figure = (λ i. e i .0) ∙ w .figure; beam = (λ i. e i .1) ∙ w .beam; paren = (λ i. e i .2) ∙ rw (w .paren, p, ne-eqb n 256 (λ z. omega arith)); count = omega arith }
       by false p c h e = kept (e ∙ rw (w .paren, p))
 
-module _ (place offset size b : ℕ) (value : List ℕ) {g : Groups} {s : rules.State} (w : Grouped g s) (n : ℕ) (e : n ≡ length (s .openBar)) where
+module _ (place offset size b : ℕ) (value : List ℕ) {g : Groups} {s : rules.State} (w : Grouped g s) (c : Counts) (e : startOf (startHere c) ≡ rules.startHere s) where
   -- the groups g′ are right after a token
   abbrev After : Token → Groups → Type 0
   After token g′ = Grouped g′ (rules.step (itemIn place offset size b value token) s)
 
-  figure-agrees : (figure : Figure) → After (t.Figure figure) (figureGroups figure n g)
+  figure-agrees : (figure : Figure) → After (t.Figure figure) (figureGroups figure (startHere c) g)
   unfolding rules.step
-  figure-agrees f.Mark = record { figure = figure-marked w n e; beam = w .beam; paren = w .paren; count = w .count }
+  figure-agrees f.Mark = record { figure = figure-marked w c e; beam = w .beam; paren = w .paren; count = w .count }
   figure-agrees f.Repeat = kept w refl
   figure-agrees f.Bar = kept w refl
 
-  -- '`{` notes the open bar's length as a start, as `(` does'; '`(` notes a start, replacing any open one'
-  marking-agrees : (marking : Marking) → After (t.Marking marking) (markingGroups marking value n g)
+  -- '`{` notes the open bar's length as a start, as `(` does', with its bar; '`(` notes a start, replacing any open one'
+  marking-agrees : (marking : Marking) → After (t.Marking marking) (markingGroups marking value (startHere c) g)
   unfolding rules.step
   marking-agrees m.BeamOpen = record { figure = w .figure; beam = ap some (sym e); paren = w .paren; count = w .count }
   marking-agrees m.BeamClose = record { figure = w .figure; beam = refl; paren = w .paren; count = w .count }
-  marking-agrees m.GroupOpen = record { figure = w .figure; beam = w .beam; paren = rw e; count = omega arith }
+  marking-agrees m.GroupOpen = record { figure = w .figure; beam = w .beam; paren = ap (λ x. some (record { start = x; count = none })) (sym e); count = omega arith }
   marking-agrees m.GroupCount = count-set w (countOf value) (count-of value) refl
   marking-agrees m.GroupClose = record { figure = w .figure; beam = w .beam; paren = refl; count = omega arith }
   marking-agrees m.Tie = kept w refl
   marking-agrees m.Trill = kept w refl
 
-  -- any token; n is the open bar's length
-  pub groups-agree : (token : Token) → After token (groupsNext token value n g)
+  -- any token
+  pub groups-agree : (token : Token) → After token (groupsNext token value (startHere c) g)
   unfolding rules.step
   groups-agree t.Clef = kept w refl
   groups-agree t.Key = kept w refl

@@ -3,3 +3,4 @@ pub mod TableLaws
 pub mod StoredBar
 pub mod BarLaws
 pub mod CountLaws
+pub mod StartLaws

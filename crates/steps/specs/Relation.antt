@@ -56,15 +56,18 @@ pub record Attributed (a : Attributes) (s : rules.State) : Type 0 where
 
 -- ---- groups
 
-abbrev pub startIn : Start → Option ℕ
-startIn start = cond (start .noted) (some (start .length)) none
+abbrev pub startOf : Start → rules.Start
+startOf start = record { bar = start .bar; from = start .from }
+
+abbrev pub startIn : Start → Option rules.Start
+startIn start = cond (start .noted) (some (startOf start)) none
 
 -- 256 means no count
 abbrev pub countIn : ℕ → Option ℕ
 countIn n = cond (eqb n 256) none (some n)
 
 abbrev pub groupIn : Groups → Option rules.Group
-groupIn g = cond (g .paren .noted) (some (record { start = g .paren .length; count = countIn (g .count) })) none
+groupIn g = cond (g .paren .noted) (some (record { start = startOf (g .paren); count = countIn (g .count) })) none
 
 pub record Grouped (g : Groups) (s : rules.State) : Type 0 where
   pub figure : s .figureStart ≡ startIn (g .figure)

@@ -1,9 +1,13 @@
 -- Changes of the reading state, part by part; over the program's own types. Assumes nothing.
-use Prim.Native.Nat.{ℕ, _+_, _-_}
-use mathlib.Core.Bool.{Bool, true, false, cond}
+use Prim.Native.Nat.{ℕ, _+_, _-_, _*_, _≤_}
+use mathlib.Core.Path.{_≡_}
+use mathlib.Core.Bool.{Bool, true, false, cond, _&&_}
+use mathlib.Core.List.{List}
 use lib.IntN.{ℤ, pos}
-use lib.Dec.{eqb, leb, ltb}
+use lib.ListN.{drop}
+use lib.Dec.{eqb, ltb}
 use mathlib.Core.Option.{Option}
+use Rattle.rules.specs.Limits.{noteSize}
 use Rattle.rules.specs.Values.{Clef, Key, Meter}
 use Rattle.rules.specs.Records.{given}
 use Rattle.limits.specs.declared.Attributes.{Attributes}
@@ -12,6 +16,7 @@ use Rattle.limits.specs.declared.Counts.{Counts}
 use Rattle.limits.specs.declared.Start.{Start}
 use Rattle.limits.specs.declared.Groups.{Groups}
 use Rattle.limits.specs.declared.Pae.{Pae}
+use Rattle.limits.specs.Pae.{noStart}
 use Rattle.values.specs.declared.rhythm.Octave.{Octave}
 use Rattle.values.specs.declared.rhythm.Octave.the-variants as o
 
@@ -113,19 +118,37 @@ repeatedCount c = cond (hasContent c) 0 (cond (eqb (c .bars) 0) 0 (c .first - c 
 
 -- ---- groups
 
-abbrev pub noStart : Start
-noStart = record { noted = false; length = 0 }
+-- a start here: the open bar and its length
+abbrev pub startHere : Counts → Start
+startHere c = record { noted = true; bar = c .bars; from = openLength c }
 
-abbrev pub startAt : ℕ → Start
-startAt n = record { noted = true; length = n }
+-- a start is noted, and the open bar is its own
+abbrev pub reaches : Start → Counts → Bool
+reaches start c = start .noted && eqb (start .bar) (c .bars)
+
+-- there it isn't beyond the bar's length
+abbrev pub Reached : Start → Counts → Type 0
+Reached start c = reaches start c ≡ true → start .from ≤ openLength c
+
+-- the record at a start
+abbrev pub recordFrom : Start → Counts → ℕ
+recordFrom start c = c .first + start .from
+
+-- the lent notes from it on
+abbrev pub cellsFrom : Start → Counts → List ℤ → List ℤ
+cellsFrom start c cells = drop (recordFrom start c * noteSize) cells
+
+-- how many of the open bar's records stand from a start on: in a later bar none
+abbrev pub countFrom : Start → Counts → ℕ
+countFrom start c = cond (reaches start c) (openLength c - start .from) 0
 
 -- 256 means that the open group has no count
 abbrev pub noCount : ℕ
 noCount = 256
 
--- the first `!` notes the open bar's length, the second closes
-abbrev pub figureMarked : ℕ → Groups → Groups
-figureMarked n g = record { figure = cond (g .figure .noted) noStart (startAt n); beam = g .beam; paren = g .paren; count = g .count }
+-- the first `!` notes a start, the second closes
+abbrev pub figureMarked : Start → Groups → Groups
+figureMarked here g = record { figure = cond (g .figure .noted) noStart here; beam = g .beam; paren = g .paren; count = g .count }
 
 abbrev pub beamSet : Start → Groups → Groups
 beamSet start g = record { figure = g .figure; beam = start; paren = g .paren; count = g .count }
@@ -139,6 +162,6 @@ countSet count g = cond (g .paren .noted) (given count g (λ n. record { figure 
 
 -- ---- the figure
 
--- the second `!` in a bar not shorter closes a figure of so many records
-abbrev pub figureClosed : Groups → ℕ → ℕ → ℕ
-figureClosed g n old = cond (g .figure .noted) (cond (leb (g .figure .length) n) (n - g .figure .length) old) old
+-- the second `!`, in the bar of the first, closes a figure of so many records
+abbrev pub figureClosed : Groups → Counts → ℕ → ℕ
+figureClosed g c old = cond (reaches (g .figure) c) (countFrom (g .figure) c) old

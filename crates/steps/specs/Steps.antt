@@ -6,8 +6,10 @@ use Rattle.rules.specs.Values.{clefOf, keyOf, meterOf, countOf}
 use Rattle.limits.specs.declared.Attributes.{Attributes}
 use Rattle.limits.specs.declared.Voice.{Voice}
 use Rattle.limits.specs.declared.Counts.{Counts}
+use Rattle.limits.specs.declared.Start.{Start}
 use Rattle.limits.specs.declared.Groups.{Groups}
 use Rattle.limits.specs.declared.Pae.{Pae}
+use Rattle.limits.specs.Pae.{noStart}
 use Rattle.decode.specs.declared.Figure.{Figure}
 use Rattle.decode.specs.declared.Figure.the-variants as f
 use Rattle.decode.specs.declared.Marking.{Marking}
@@ -15,7 +17,7 @@ use Rattle.decode.specs.declared.Marking.the-variants as m
 use Rattle.decode.specs.declared.Token.{Token}
 use Rattle.decode.specs.declared.Token.the-variants as t
 use Rattle.steps.specs.Accidentals.{Table, cleared, lettered}
-use Rattle.steps.specs.State.{hasContent, openLength, clefSet, keySet, meterSet, barAttributes, octaveSet, accidentalSet, chordSet, graceSet, graceGroupSet, tieSet, letterJoined, letterOpened, counted, barCounted, repeatedCount, noStart, startAt, figureMarked, beamSet, parenSet, countSet, figureClosed}
+use Rattle.steps.specs.State.{hasContent, clefSet, keySet, meterSet, barAttributes, octaveSet, accidentalSet, chordSet, graceSet, graceGroupSet, tieSet, letterJoined, letterOpened, counted, barCounted, repeatedCount, startHere, figureMarked, beamSet, parenSet, countSet, figureClosed}
 
 -- taken only while the open bar has no note
 abbrev pub attributesNext : Token → List ℕ → Pae → Attributes
@@ -96,14 +98,15 @@ countsNext token joined n c = elim token [
 ]
 
 -- n: the open bar's length
-abbrev pub markingGroups : Marking → List ℕ → ℕ → Groups → Groups
-markingGroups marking value n g = elim marking [ m.BeamOpen ↦ beamSet (startAt n) g | m.BeamClose ↦ beamSet noStart g | m.GroupOpen ↦ parenSet (startAt n) g | m.GroupCount ↦ countSet (countOf value) g | m.GroupClose ↦ parenSet noStart g | m.Tie ↦ g | m.Trill ↦ g ]
+-- here: a start here
+abbrev pub markingGroups : Marking → List ℕ → Start → Groups → Groups
+markingGroups marking value here g = elim marking [ m.BeamOpen ↦ beamSet here g | m.BeamClose ↦ beamSet noStart g | m.GroupOpen ↦ parenSet here g | m.GroupCount ↦ countSet (countOf value) g | m.GroupClose ↦ parenSet noStart g | m.Tie ↦ g | m.Trill ↦ g ]
 
-abbrev pub figureGroups : Figure → ℕ → Groups → Groups
-figureGroups figure n g = elim figure [ f.Mark ↦ figureMarked n g | f.Repeat ↦ g | f.Bar ↦ g ]
+abbrev pub figureGroups : Figure → Start → Groups → Groups
+figureGroups figure here g = elim figure [ f.Mark ↦ figureMarked here g | f.Repeat ↦ g | f.Bar ↦ g ]
 
-abbrev pub groupsNext : Token → List ℕ → ℕ → Groups → Groups
-groupsNext token value n g = elim token [
+abbrev pub groupsNext : Token → List ℕ → Start → Groups → Groups
+groupsNext token value here g = elim token [
   | t.Clef ↦ g
   | t.Key ↦ g
   | t.Meter ↦ g
@@ -118,15 +121,15 @@ groupsNext token value n g = elim token [
   | t.Barline barline ↦ g
   | t.Grace slashed ↦ g
   | t.GraceGroup begins ↦ g
-  | t.Figure figure ↦ figureGroups figure n g
-  | t.Marking marking ↦ markingGroups marking value n g
+  | t.Figure figure ↦ figureGroups figure here g
+  | t.Marking marking ↦ markingGroups marking value here g
   | t.Blank ↦ g
   | t.Colon ↦ g
   | t.Unknown ↦ g
 ]
 
-abbrev pub figureFigure : Figure → Groups → ℕ → ℕ → ℕ
-figureFigure figure g n old = elim figure [ f.Mark ↦ figureClosed g n old | f.Repeat ↦ old | f.Bar ↦ old ]
+abbrev pub figureFigure : Figure → Groups → Counts → ℕ → ℕ
+figureFigure figure g c old = elim figure [ f.Mark ↦ figureClosed g c old | f.Repeat ↦ old | f.Bar ↦ old ]
 
 abbrev pub figureNext : Token → Pae → ℕ
 figureNext token st = let old = st .figure in elim token [
@@ -144,7 +147,7 @@ figureNext token st = let old = st .figure in elim token [
   | t.Barline barline ↦ old
   | t.Grace slashed ↦ old
   | t.GraceGroup begins ↦ old
-  | t.Figure figure ↦ figureFigure figure (st .groups) (openLength (st .counts)) old
+  | t.Figure figure ↦ figureFigure figure (st .groups) (st .counts) old
   | t.Marking marking ↦ old
   | t.Blank ↦ old
   | t.Colon ↦ old
@@ -181,7 +184,7 @@ stepped token value joined ends st = record {
   attributes = attributesNext token value st;
   voice = voiceNext token joined ends (st .voice);
   counts = countsNext token joined (st .figure) (st .counts);
-  groups = groupsNext token value (openLength (st .counts)) (st .groups);
+  groups = groupsNext token value (startHere (st .counts)) (st .groups);
   figure = figureNext token st;
   diagnostics = st .diagnostics;
 }

@@ -2,9 +2,10 @@
 ghost use mathlib.Core.Path.{_≡_};
 ghost use mathlib.Core.Bool.{true, false};
 ghost use Prim.Native.Nat.{_≤_, _<_};
+ghost use Rattle.limits.specs.Pae.{noStart};
 ghost use Rattle.text.specs.Counts.{numberIn};
 ghost use Rattle.values.specs.Attributes.{clefValue, keyValue, meterOption};
-ghost use Rattle.steps.specs.State.{hasContent, openLength, clefSet, keySet, meterSet, newBar, barAttributes, accidentalSet, graceSet, letterJoined, letterOpened, counted, barCounted, repeatedCount, noStart, startAt, figureMarked, beamSet, parenSet, countSet, figureClosed};
+ghost use Rattle.steps.specs.State.{hasContent, openLength, clefSet, keySet, meterSet, newBar, barAttributes, accidentalSet, graceSet, letterJoined, letterOpened, counted, barCounted, repeatedCount, startHere, reaches, Reached, countFrom, figureMarked, beamSet, parenSet, countSet, figureClosed};
 use limits::Attributes;
 use limits::Counts;
 use limits::Groups;
@@ -190,12 +191,15 @@ pub fn repeated_count(counts: Counts) -> usize
 
 // ---- groups
 
-fn start_at(length: usize) -> Start
-    ensures { λ r. ⌜ r ≡ startAt length ⌝ }
+// A start here.
+pub fn start_here(counts: Counts) -> Start
+    requires { ⌜ counts .first ≤ counts .notes ⌝ }
+    ensures { λ r. ⌜ r ≡ startHere counts ⌝ }
 {
     Start {
         noted: true,
-        length,
+        bar: counts.bars,
+        from: open_length(counts),
     }
 }
 
@@ -204,26 +208,45 @@ fn no_start() -> Start
 {
     Start {
         noted: false,
-        length: 0,
+        bar: 0,
+        from: 0,
     }
 }
 
-// The first `!` notes the open bar's length, the second closes.
-pub fn figure_marked(mut groups: Groups, length: usize) -> Groups
-    ensures { λ r. ⌜ r ≡ figureMarked length groups ⌝ }
+// A start is noted, and the open bar is its own.
+pub fn reaches(start: Start, counts: Counts) -> bool
+    ensures { λ r. ⌜ r ≡ reaches start counts ⌝ }
+{
+    start.noted & (start.bar == counts.bars)
+}
+
+// How many of the open bar's records stand from a start on: in a later bar none.
+pub fn count_from(start: Start, counts: Counts) -> usize
+    requires { ⌜ (counts .first ≤ counts .notes) × Reached start counts ⌝ }
+    ensures { λ r. ⌜ r ≡ countFrom start counts ⌝ }
+{
+    if reaches(start, counts) {
+        return open_length(counts) - start.from;
+    }
+    0
+}
+
+// The first `!` notes a start, the second closes.
+pub fn figure_marked(mut groups: Groups, here: Start) -> Groups
+    ensures { λ r. ⌜ r ≡ figureMarked here groups ⌝ }
 {
     if groups.figure.noted {
         groups.figure = no_start();
         return groups;
     }
-    groups.figure = start_at(length);
+    groups.figure = here;
     groups
 }
 
-pub fn beam_opened(mut groups: Groups, length: usize) -> Groups
-    ensures { λ r. ⌜ r ≡ beamSet (startAt length) groups ⌝ }
+pub fn beam_opened(mut groups: Groups, here: Start) -> Groups
+    ensures { λ r. ⌜ r ≡ beamSet here groups ⌝ }
 {
-    groups.beam = start_at(length);
+    groups.beam = here;
     groups
 }
 
@@ -234,10 +257,10 @@ pub fn beam_closed(mut groups: Groups) -> Groups
     groups
 }
 
-pub fn paren_opened(mut groups: Groups, length: usize) -> Groups
-    ensures { λ r. ⌜ r ≡ parenSet (startAt length) groups ⌝ }
+pub fn paren_opened(mut groups: Groups, here: Start) -> Groups
+    ensures { λ r. ⌜ r ≡ parenSet here groups ⌝ }
 {
-    groups.paren = start_at(length);
+    groups.paren = here;
     groups.count = Pae::NO_COUNT;
     groups
 }
@@ -268,15 +291,13 @@ pub fn paren_counted(mut groups: Groups, count: Count) -> Groups
     groups
 }
 
-// The second `!`, in a bar not shorter, closes a figure of so many records.
-pub fn figure_closed(groups: Groups, length: usize, old: usize) -> usize
-    ensures { λ r. ⌜ r ≡ figureClosed groups length old ⌝ }
+// The second `!`, in the bar of the first, closes a figure of so many records.
+pub fn figure_closed(groups: Groups, counts: Counts, old: usize) -> usize
+    requires { ⌜ (counts .first ≤ counts .notes) × Reached (groups .figure) counts ⌝ }
+    ensures { λ r. ⌜ r ≡ figureClosed groups counts old ⌝ }
 {
-    if groups.figure.noted {
-        if groups.figure.length <= length {
-            return length - groups.figure.length;
-        }
-        return old;
+    if reaches(groups.figure, counts) {
+        return count_from(groups.figure, counts);
     }
     old
 }

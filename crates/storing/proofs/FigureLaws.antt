@@ -1,5 +1,5 @@
 -- Figures: what `!` takes and what `f` and `i` append is what the rules take and append (01, 'Figures'). Assumes nothing.
-use Prim.Native.Nat.{ℕ, suc, _+_, _-_, _*_, _≤_}
+use Prim.Native.Nat.{ℕ, suc, _+_, _*_, _≤_}
 use native.Mathlib.Omega.{arith}
 use native.Mathlib.Numerals.{add-one}
 use mathlib.Core.Path.{_≡_, refl, sym, ap, _∙_}
@@ -8,7 +8,7 @@ use lib.IntN.{ℤ}
 use lib.ListN.{length, take, drop, length-append, length-map}
 use Rattle.rules.specs.Limits.{noteSize, noteLimit}
 use Rattle.rules.specs.Records.{Note, Bar}
-use Rattle.rules.specs.Rules.{copied, repeatedBar, notesFrom}
+use Rattle.rules.specs.Rules.{copied, repeatedBar}
 use Rattle.rules.specs.Words.{cells, padded, noteWords, inBar}
 use Rattle.limits.specs.declared.Counts.{Counts}
 use Rattle.records.specs.Cells.{written}
@@ -17,9 +17,9 @@ use Rattle.records.proofs.CellLaws.{length-cells, padded-extended}
 use Rattle.records.proofs.NoteLaws.{length-note}
 use Rattle.records.proofs.CopyLaws.{written-front, copies-none, copies-records}
 use Rattle.records.proofs.StoredLaws as records
-use Rattle.steps.specs.State.{openLength, counted, repeatedCount}
+use Rattle.steps.specs.State.{counted, repeatedCount}
 use Rattle.steps.specs.Relation.{recordsIn, notesIn, Stored, Figured}
-use Rattle.steps.proofs.CountLaws.{length-open, repeated-count}
+use Rattle.steps.proofs.CountLaws.{repeated-count}
 
 -- ---- the figure
 
@@ -28,17 +28,16 @@ notes-in-bar b [] = refl
 notes-in-bar b (n ∷ ns) = ap (λ (l : List Note). n ∷ l) (notes-in-bar b ns)
 
 -- 'the second copies the notes from there into the figure'
-pub figure-closed : {size : ℕ} {o : List Note} {bs : List Bar} {c : Counts} {notes : List ℤ} → Stored size o bs c notes → (start : ℕ) (held : List ℤ) → start ≤ openLength c
-    → Figured (notesFrom start o) (openLength c - start) (written held 0 (take ((openLength c - start) * noteSize) (drop ((c .first + start) * noteSize) notes)))
-figure-closed {size} {o} {bs} {c} {notes} r start held h =
-    let l : start ≤ length o = omega (arith, length-open r) in
-    let words = take ((openLength c - start) * noteSize) (drop ((c .first + start) * noteSize) notes) in
-    let taken : words ≡ cells noteWords (inBar (suc (length bs)) (notesFrom start o)) = rw (length-open r, r .first, r .written) (records.figure-taken size o bs start l) in
+pub figure-closed : {size : ℕ} {o : List Note} {bs : List Bar} {c : Counts} {notes : List ℤ} → Stored size o bs c notes → (start m : ℕ) (held : List ℤ) → start + m ≡ length o
+    → Figured (take m o) m (written held 0 (take (m * noteSize) (drop ((c .first + start) * noteSize) notes)))
+figure-closed {size} {o} {bs} {c} {notes} r start m held h =
+    let words = take (m * noteSize) (drop ((c .first + start) * noteSize) notes) in
+    let taken : words ≡ cells noteWords (inBar (suc (length bs)) (take m o)) = rw (r .first, r .written) (records.figure-taken size o bs start m h) in
     record {
-      records = inBar (suc (length bs)) (notesFrom start o);
+      records = inBar (suc (length bs)) (take m o);
       rest = drop (length words) held;
-      notes = notes-in-bar (suc (length bs)) (notesFrom start o);
-      counted = rw (length-map, records.length-part size o bs start l, length-open r);
+      notes = notes-in-bar (suc (length bs)) (take m o);
+      counted = rw (length-map, records.length-part size o bs start m h);
       written = written-front held words ∙ ap (λ (w : List ℤ). w ++ drop (length words) held) taken;
     }
 

@@ -1,37 +1,38 @@
 -- One law for each kind of token: the lent notes and the figure after it hold what the rules' step makes of the open bar and the figure. Assumes nothing.
-use Prim.Native.Nat.{ℕ, _+_, _-_, _*_, _<_, _≤_}
+use Prim.Native.Nat.{ℕ, _+_, _*_, _<_, _≤_}
 use native.Mathlib.Omega.{arith}
-use mathlib.Core.Path.{_≡_, refl, sym, ap, subst, _∙_}
+use mathlib.Core.Path.{_≡_, refl, sym, ap, subst}
 use mathlib.Core.Bool.{Bool, true, false, cond, _&&_}
 use mathlib.Core.Option.{Option, none, some}
 use mathlib.Core.List.{List, [], _∷_, _++_, map}
 use lib.IntN.{ℤ}
-use lib.ListN.{length, take, drop}
-use lib.Dec.{leb}
-use borrow.Author.Tests.{leb-true, leb-false}
+use lib.ListN.{take, drop}
 use Rattle.text.proofs.BoolLaws.{both}
 use Rattle.rules.specs.Limits.{noteSize, noteLimit, pitchCapacity}
 use Rattle.rules.specs.Values.{Length}
 use Rattle.rules.specs.Tokens.{Token, Item, letter, rest, barline, figure, figureMark, figureRepeat, barRepeat, marking, beamOpen, beamClose, groupOpen, groupClose, groupCount, tie, trill, other, wholeBars, letterIn, isRest, isBarline, figureIn, markingIn, wholeBarsIn}
 use Rattle.rules.specs.Records.{Note, given}
-use Rattle.rules.specs.Rules.{State, Group, Closing, nothing, fermata, tuplet, tooFew, closing, closingOf, pitchOf, kindOf, lengthOf, heading, plain, openedNote, restNote, nextValue, alterOf, endsInNote, joins, copied, repeatedBar, notesFrom, groupClosed, beamClosed, notationsNext, withNotations, step}
+use Rattle.rules.specs.Rules.{State, Group, Closing, nothing, fermata, tuplet, tooFew, closing, closingOf, pitchOf, kindOf, lengthOf, heading, plain, openedNote, restNote, nextValue, alterOf, endsInNote, joins, copied, repeatedBar, inItsBar, notesFrom, groupClosed, beamClosed, notationsNext, withNotations, step}
+use Rattle.rules.specs.Rules as rules
 use Rattle.rules.specs.Words.{zeros}
 use Rattle.limits.specs.declared.Voice.{Voice}
 use Rattle.limits.specs.declared.Counts.{Counts}
+use Rattle.limits.specs.declared.Start.{Start}
 use Rattle.limits.specs.declared.Groups.{Groups}
 use Rattle.records.specs.Cells.{written}
 use Rattle.records.specs.Copies.{copies}
 use Rattle.records.specs.Notes.{pitchCountAt}
 use Rattle.records.specs.Groups.{timedCount, beamed, onPart}
 use Rattle.records.proofs.CellLaws.{padded-none}
-use Rattle.steps.specs.State.{hasContent, openLength, counted, barCounted, repeatedCount, figureClosed}
+use Rattle.steps.specs.State.{hasContent, counted, barCounted, repeatedCount, reaches, Reached, recordFrom, cellsFrom, countFrom, figureClosed}
 use Rattle.steps.specs.Notes.{lastField, endsOf, joinsOf, pitchIn, joinedCells, openedCells, restCells, wholeBarCells, tiedCells, trilledCells, closedCells}
-use Rattle.steps.specs.Relation.{countIn, Voiced, Grouped, Stored, Figured}
-use Rattle.steps.proofs.CountLaws.{length-open, ends-agree}
+use Rattle.steps.specs.Relation.{startOf, countIn, Voiced, Grouped, Stored, Figured}
+use Rattle.steps.proofs.CountLaws.{ends-agree}
+use Rattle.steps.proofs.StartLaws.{InLength, all-from, unnoted, bar-agrees, count-agrees, in-length, closing-later, closing-read}
 use Rattle.steps.proofs.StoredBar.{bar-stored}
 use Rattle.storing.proofs.NotesLaws.{opened, rested, whole-bar, joined, withNotations-same, kept, untouched, tied, trilled}
 use Rattle.storing.proofs.FigureLaws.{figure-closed, figure-repeated, bar-repeated}
-use Rattle.storing.proofs.GroupsOpenLaws.{beam-closed, beam-beyond, closing-read, nothing-closed, few-closed, fermata-closed, tuplet-closed}
+use Rattle.storing.proofs.GroupsOpenLaws.{beam-closed, beam-later, nothing-closed, few-closed, fermata-closed, tuplet-closed}
 
 -- ---- the start of a reading
 
@@ -41,6 +42,10 @@ fresh-stored size = record { count = refl; first = refl; last = refl; bars = ref
 
 pub fresh-figured : (held : List ℤ) → Figured [] 0 held
 fresh-figured held = record { records = []; rest = held; notes = refl; counted = refl; written = refl }
+
+-- of the rules' test and count, so of the program's
+subst-both : (P : Bool → ℕ → Type 0) {a b : Bool} {m n : ℕ} → a ≡ b → m ≡ n → P b n → P a m
+subst-both P {a} {b} {m} {n} e d p = subst (λ t. P t m) (sym e) (subst (P b) (sym d) p)
 
 module _ {size : ℕ} {c : Counts} {notes : List ℤ} (place offset width : ℕ) (s : State) (r : Stored size (s .openBar) (s .bars) c notes) where
   abbrev pub item : Token → Item
@@ -131,52 +136,74 @@ module _ {size : ℕ} {c : Counts} {notes : List ℤ} (place offset width : ℕ)
 
   -- ---- groups
 
-  group-closed : (x : Group) (what : Closing) → closingOf x s ≡ what → Stored size (withNotations (groupClosed x s) 0 (s .openBar)) (s .bars) c (closedCells what (c .first + x .start) (openLength c - x .start) notes)
-  group-closed x nothing e = nothing-closed s r x e
-  group-closed x fermata e = fermata-closed s r x e
-  group-closed x (tuplet actual) e = tuplet-closed s r x actual e
-  group-closed x (tooFew actual) e = few-closed s r x actual e
+  group-closed : (x : Group) → InLength (x .start) s → (what : Closing) → closingOf x s ≡ what
+      → Stored size (withNotations (groupClosed x s) 0 (s .openBar)) (s .bars) c (closedCells what (c .first + x .start .from) (rules.countFrom (x .start) s) notes)
+  group-closed x h nothing e = nothing-closed s r x h e
+  group-closed x h fermata e = fermata-closed s r x h e
+  group-closed x h (tuplet actual) e = tuplet-closed s r x h actual e
+  group-closed x h (tooFew actual) e = few-closed s r x h actual e
 
   module _ {g : Groups} (w : Grouped g s) where
-    -- 'the second copies the notes from there into the figure, or is d17 if the bar is now shorter'
-    pub figure-mark-figured : {old : ℕ} {held : List ℤ} → Figured (s .figure) old held → let start = g .figure .length in
-        Figured (step (item (figure figureMark)) s .figure) (figureClosed g (openLength c) old) (cond (g .figure .noted && leb start (openLength c)) (written held 0 (take ((openLength c - start) * noteSize) (drop ((c .first + start) * noteSize) notes))) held)
+    -- 'the second copies the notes from there into the figure'; closed in a later bar it doesn't
+    pub figure-mark-figured : Reached (g .figure) c → {old : ℕ} {held : List ℤ} → Figured (s .figure) old held → let start = g .figure in
+        Figured (step (item (figure figureMark)) s .figure) (figureClosed g c old) (cond (reaches start c) (written held 0 (take (countFrom start c * noteSize) (cellsFrom start c notes))) held)
     unfolding step
-    figure-mark-figured {old} {held} f = rw (w .figure) (go (g .figure .noted) (leb (g .figure .length) (openLength c)) (g .figure .length) refl)
+    figure-mark-figured h {old} {held} f = rw (w .figure) (go (g .figure .noted) refl)
       where
-        go : (noted reaches : Bool) (start : ℕ) → leb start (openLength c) ≡ reaches
-            → Figured (given (cond noted (some start) none) (s .figure) (λ n. cond (leb n (length (s .openBar))) (notesFrom n (s .openBar)) (s .figure))) (cond noted (cond (leb start (openLength c)) (openLength c - start) old) old)
-            (cond (noted && leb start (openLength c)) (written held 0 (take ((openLength c - start) * noteSize) (drop ((c .first + start) * noteSize) notes))) held)
-        go false reaches start e = f
-        go true true start e = rw (ap (leb start) (sym (length-open r)) ∙ e, e) (figure-closed r start held (leb-true start (openLength c) e))
-        go true false start e = rw (ap (leb start) (sym (length-open r)) ∙ e, e) f
+        start : Start
+        start = g .figure
+
+        Marked : Option rules.Start → Bool → ℕ → Type 0
+        Marked x here m = Figured (given x (s .figure) (λ n. cond (inItsBar n s) (notesFrom n s) (s .figure))) (cond here m old) (cond here (written held 0 (take (m * noteSize) (cellsFrom start c notes))) held)
+
+        by : InLength (startOf start) s → (b : Bool) → inItsBar (startOf start) s ≡ b → let m = rules.countFrom (startOf start) s in
+            Figured (cond b (notesFrom (startOf start) s) (s .figure)) (cond b m old) (cond b (written held 0 (take (m * noteSize) (cellsFrom start c notes))) held)
+        by l true e = figure-closed r (start .from) (rules.countFrom (startOf start) s) held (all-from s (startOf start) l e)
+        by l false e = f
+
+        go : (noted : Bool) → start .noted ≡ noted → Marked (cond noted (some (startOf start)) none) (reaches start c) (countFrom start c)
+        go true e = subst-both (λ here m. Marked (some (startOf start)) here m) (bar-agrees s r start e) (count-agrees s r start e) (by (in-length s r start e h) (inItsBar (startOf start) s) refl)
+        go false e = subst (λ here. Marked none here (countFrom start c)) (sym (unnoted start c e)) f
 
     -- '`}` beams the open bar's non-grace records from that length on .. without `{` nothing'
-    pub beam-close-stored : let start = g .beam .length in After (marking beamClose) c (cond (g .beam .noted && leb start (openLength c)) (onPart (c .first + start) (λ part. beamed part (openLength c - start)) notes) notes)
+    pub beam-close-stored : Reached (g .beam) c → let start = g .beam in After (marking beamClose) c (cond (reaches start c) (onPart (recordFrom start c) (λ part. beamed part (countFrom start c)) notes) notes)
     unfolding step
-    beam-close-stored = subst (λ (b : Option ℕ). Beamed b (g .beam .noted) (g .beam .length)) (sym (w .beam)) (go (g .beam .noted) (leb (g .beam .length) (openLength c)) (g .beam .length) refl)
+    beam-close-stored h = subst (λ x. Beamed x (reaches (g .beam) c) (countFrom (g .beam) c)) (sym (w .beam)) (go (g .beam .noted) refl)
       where
-        Beamed : Option ℕ → Bool → ℕ → Type 0
-        Beamed b noted start = Stored size (withNotations (λ later n. given b (n .notations) (λ k. beamClosed k s later n)) 0 (s .openBar)) (s .bars) c (cond (noted && leb start (openLength c)) (onPart (c .first + start) (λ part. beamed part (openLength c - start)) notes) notes)
+        start : Start
+        start = g .beam
 
-        go : (noted reaches : Bool) (start : ℕ) → leb start (openLength c) ≡ reaches → Beamed (cond noted (some start) none) noted start
-        go false reaches start e = untouched r
-        go true true start e = rw e (beam-closed s r start (omega (arith, leb-true start (openLength c) e, length-open r)))
-        go true false start e = rw e (beam-beyond s r start (omega (arith, leb-false start (openLength c) e, length-open r)))
+        Beamed : Option rules.Start → Bool → ℕ → Type 0
+        Beamed x here m = Stored size (withNotations (λ later n. given x (n .notations) (λ k. beamClosed k s later n)) 0 (s .openBar)) (s .bars) c (cond here (onPart (recordFrom start c) (λ part. beamed part m) notes) notes)
+
+        by : InLength (startOf start) s → (b : Bool) → inItsBar (startOf start) s ≡ b → Beamed (some (startOf start)) b (rules.countFrom (startOf start) s)
+        by l true e = beam-closed s r (startOf start) l e
+        by l false e = beam-later s r (startOf start) e
+
+        go : (noted : Bool) → start .noted ≡ noted → Beamed (cond noted (some (startOf start)) none) (reaches start c) (countFrom start c)
+        go true e = subst-both (λ here m. Beamed (some (startOf start)) here m) (bar-agrees s r start e) (count-agrees s r start e) (by (in-length s r start e h) (inItsBar (startOf start) s) refl)
+        go false e = subst (λ here. Beamed none here (countFrom start c)) (sym (unnoted start c e)) (untouched r)
 
     -- 'The closing step gets only the open bar's notes from the group's start'
-    pub group-close-stored : let start = g .paren .length in
-        After (marking groupClose) c (cond (g .paren .noted) (closedCells (closing (timedCount (drop ((c .first + start) * noteSize) notes) (openLength c - start)) (countIn (g .count))) (c .first + start) (openLength c - start) notes) notes)
+    pub group-close-stored : Reached (g .paren) c → let start = g .paren in
+        After (marking groupClose) c (cond (reaches start c) (closedCells (closing (timedCount (cellsFrom start c notes) (countFrom start c)) (countIn (g .count))) (recordFrom start c) (countFrom start c) notes) notes)
     unfolding step
-    group-close-stored = subst (λ (x : Option Group). Closed x (g .paren .noted)) (sym (w .paren)) (go (g .paren .noted))
+    group-close-stored h = subst (λ x. Closed x (reaches (g .paren) c) (countFrom (g .paren) c)) (sym (w .paren)) (go (g .paren .noted) refl)
       where
+        start : Start
+        start = g .paren
+
         group : Group
-        group = record { start = g .paren .length; count = countIn (g .count) }
+        group = record { start = startOf start; count = countIn (g .count) }
 
-        Closed : Option Group → Bool → Type 0
-        Closed x noted = Stored size (withNotations (λ later n. given x (n .notations) (λ k. groupClosed k s later n)) 0 (s .openBar)) (s .bars) c
-            (cond noted (closedCells (closing (timedCount (drop ((c .first + group .start) * noteSize) notes) (openLength c - group .start)) (group .count)) (c .first + group .start) (openLength c - group .start) notes) notes)
+        Closed : Option Group → Bool → ℕ → Type 0
+        Closed x here m = Stored size (withNotations (λ later n. given x (n .notations) (λ k. groupClosed k s later n)) 0 (s .openBar)) (s .bars) c
+            (cond here (closedCells (closing (timedCount (cellsFrom start c notes) m) (countIn (g .count))) (recordFrom start c) m notes) notes)
 
-        go : (noted : Bool) → Closed (cond noted (some group) none) noted
-        go false = untouched r
-        go true = rw (closing-read s r group) (group-closed group (closingOf group s) refl)
+        by : InLength (startOf start) s → (b : Bool) → inItsBar (startOf start) s ≡ b → Closed (some group) b (rules.countFrom (startOf start) s)
+        by l true e = rw (closing-read s r group l) (group-closed group l (closingOf group s) refl)
+        by l false e = nothing-closed s r group l (closing-later s r group l e)
+
+        go : (noted : Bool) → start .noted ≡ noted → Closed (cond noted (some group) none) (reaches start c) (countFrom start c)
+        go true e = subst-both (λ here m. Closed (some group) here m) (bar-agrees s r start e) (count-agrees s r start e) (by (in-length s r start e h) (inItsBar (startOf start) s) refl)
+        go false e = subst (λ here. Closed none here (countFrom start c)) (sym (unnoted start c e)) (untouched r)

@@ -1,5 +1,5 @@
 -- No stored note has more pitches or marks than its record holds (refusals 9 and 10), so nothing is cut off. Assumes nothing.
-use Prim.Native.Nat.{ℕ, zero, suc, _+_, _-_, _<_, _≤_}
+use Prim.Native.Nat.{ℕ, zero, suc, _+_, _<_, _≤_}
 use mathlib.Core.Path.{_≡_, refl, sym, ap, _∙_}
 use mathlib.Core.Bool.{Bool, true, false, cond, _&&_}
 use mathlib.Core.Option.{Option, none, some, Option·getD}
@@ -12,7 +12,7 @@ use lib.ListN.{length, take}
 use Rattle.rules.specs.Limits.{pitchCapacity, markCapacity}
 use Rattle.rules.specs.Tokens.{letterIn, Marking, beamOpen, beamClose, groupOpen, groupClose, groupCount, tie, trill, Item}
 use Rattle.rules.specs.Records.{isSome, given, Notations, Note}
-use Rattle.rules.specs.Rules.{pitchOf, endsInNote, joins, isNonGrace, nonGraceIn, notesFrom, withTieStart, withTuplet, withMark, Closing, nothing, fermata, tuplet, tooFew, tupletOf, closing, closed, closingOf, groupClosed, marked, withNotations, furtherBars, stateAfter, stored, Group, State, Attributes}
+use Rattle.rules.specs.Rules.{pitchOf, endsInNote, joins, isNonGrace, nonGraceIn, countFrom, notesFrom, withTieStart, withTuplet, withMark, Closing, nothing, fermata, tuplet, tooFew, tupletOf, closing, closed, closingOf, groupClosed, marked, withNotations, furtherBars, stateAfter, stored, Group, State, Attributes}
 use Rattle.rules.specs.Fields.{dataOf}
 use Rattle.rules.specs.Refusals.{textRefusal, isFull, isMarkedFull, lastNonGrace, isFermata, overMarks, tokenChecks, tokenRefusal, refusalAt, refusalInTurn, tokensRefusal, refusalOf, LentRecords}
 use Rattle.rules.specs.Reading.{lentRecords, attributesOf, tokensOf, recordsOf, reading, Lent}
@@ -78,20 +78,20 @@ module _ (w : ℕ) where
 
 -- what `)` makes of a group adds a mark only as a fermata
 closed-few : (s : State) (g : Group) → isFermata (closingOf g s) && isMarkedFull (lastNonGrace (s .openBar)) ≡ false → (c : Closing) → closingOf g s ≡ c → All Few (s .openBar)
-    → All Few (withNotations (λ later n. cond (isNonGrace n && ltb later (length (s .openBar) - g .start)) (closed c (n .notations)) (n .notations)) 0 (s .openBar))
-closed-few s g f nothing e = unmarked _ (λ i n. either n (isNonGrace n && ltb i (length (s .openBar) - g .start)) (n .notations) refl) 0 (s .openBar)
-closed-few s g f (tuplet actual) e = unmarked _ (λ i n. either n (isNonGrace n && ltb i (length (s .openBar) - g .start)) (withTuplet actual (n .notations)) refl) 0 (s .openBar)
-closed-few s g f (tooFew actual) e = unmarked _ (λ i n. either n (isNonGrace n && ltb i (length (s .openBar) - g .start)) (n .notations) refl) 0 (s .openBar)
+    → All Few (withNotations (λ later n. cond (isNonGrace n && ltb later (countFrom (g .start) s)) (closed c (n .notations)) (n .notations)) 0 (s .openBar))
+closed-few s g f nothing e = unmarked _ (λ i n. either n (isNonGrace n && ltb i (countFrom (g .start) s)) (n .notations) refl) 0 (s .openBar)
+closed-few s g f (tuplet actual) e = unmarked _ (λ i n. either n (isNonGrace n && ltb i (countFrom (g .start) s)) (withTuplet actual (n .notations)) refl) 0 (s .openBar)
+closed-few s g f (tooFew actual) e = unmarked _ (λ i n. either n (isNonGrace n && ltb i (countFrom (g .start) s)) (n .notations) refl) 0 (s .openBar)
 closed-few s g f fermata e =
-    let one : nonGraceIn (notesFrom (g .start) (s .openBar)) ≡ 1 = one-timed (nonGraceIn (notesFrom (g .start) (s .openBar))) (g .count) (ap isFermata e) in
+    let one : nonGraceIn (notesFrom (g .start) s) ≡ 1 = one-timed (nonGraceIn (notesFrom (g .start) s)) (g .count) (ap isFermata e) in
     let room : isMarkedFull (lastNonGrace (s .openBar)) ≡ false = sym (ap (λ c. isFermata c && isMarkedFull (lastNonGrace (s .openBar))) e) ∙ f in
-    few-fermata (length (s .openBar) - g .start) (length (s .openBar) - g .start) 0 (s .openBar) (omega arith) (omega (arith, one)) (λ p. room)
+    few-fermata (countFrom (g .start) s) (countFrom (g .start) s) 0 (s .openBar) (omega arith) (omega (arith, one)) (λ p. room)
 
 -- a mark that passes check 10 leaves at most 8
 by-mark : (s : State) (m : Marking) → overMarks m s ≡ false → All Few (s .openBar) → All Few (withNotations (marked m s) 0 (s .openBar))
 by-mark s beamOpen f = unmarked _ (λ i n. refl) 0 (s .openBar)
 by-mark s beamClose f = unmarked _ (λ i n. given-ind (λ (d : Notations). d .marks ≡ n .notations .marks) (s .beamStart) refl
-    (λ start. either n (isNonGrace n && ltb i (length (s .openBar) - start) && ltb 1 (nonGraceIn (notesFrom start (s .openBar)))) _ refl)) 0 (s .openBar)
+    (λ start. either n (isNonGrace n && ltb i (countFrom start s) && ltb 1 (nonGraceIn (notesFrom start s))) _ refl)) 0 (s .openBar)
 by-mark s groupOpen f = unmarked _ (λ i n. refl) 0 (s .openBar)
 by-mark s groupClose f = by-group (s .group) f
   where

@@ -1,15 +1,13 @@
 -- What holds of each stored record, kept up from token to token. Assumes nothing.
-use Prim.Native.Nat.{ℕ, suc, _-_}
+use Prim.Native.Nat.{ℕ, suc}
 use mathlib.Core.Path.{_≡_, refl, sym, subst}
 use mathlib.Core.Bool.{true, cond}
 use mathlib.Core.Option.{Option, none, some}
 use mathlib.Core.List.{List, [], _∷_}
 use native.Mathlib.Omega.{arith}
-use lib.Dec.{leb}
-use lib.ListN.{length}
 use Rattle.rules.specs.Tokens.{letterIn, isRest, isBarline, rightIn, figureIn, markingIn, wholeBarsIn, Figure, Marking, Token, Item, figureMark, figureRepeat, barRepeat, clef, key, meter, octave, duration, accidental, letter, chord, rest, barline, grace, graceGroup, figure, marking, other}
 use Rattle.rules.specs.Records.{isSome, given, isEmpty, notesOf, Pitch, Notations, Note, Bar}
-use Rattle.rules.specs.Rules.{close, pitchOf, openedNote, restNote, joins, opens, copied, repeatedBar, repeated, figureNext, wholeBarRest, stores, addPitch, joined, marked, withNotations, step, innerBarline, inTurn, stateAfter, stored, State, Attributes}
+use Rattle.rules.specs.Rules.{close, pitchOf, openedNote, restNote, joins, opens, copied, repeatedBar, repeated, inItsBar, countFrom, figureNext, wholeBarRest, stores, addPitch, joined, marked, withNotations, step, innerBarline, inTurn, stateAfter, stored, State, Attributes}
 use Rattle.rules.specs.Agreement.{All}
 use Rattle.theorems.proofs.Lists.{cond-ind, cond-case, given-ind, given-case, all-imp, all-++, all-map, all-take}
 use Rattle.theorems.proofs.WholeBars.{each-turn, wholeAt, by-turns}
@@ -114,7 +112,7 @@ module _ (k : Attributes) (Ok : List Item → Type 0) (P : List Item → Note �
       }
     where
       next : (s : State) → All (P (x ∷ e)) (s .openBar) → All (P (x ∷ e)) (s .figure) → (f : Figure) → All (P (x ∷ e)) (figureNext f s)
-      next s b g figureMark = given-ind (All (P (x ∷ e))) (s .figureStart) g (λ m. cond-ind (All (P (x ∷ e))) (leb m (length (s .openBar))) (all-take (P (x ∷ e)) (length (s .openBar) - m) (s .openBar) b) g)
+      next s b g figureMark = given-ind (All (P (x ∷ e))) (s .figureStart) g (λ m. cond-ind (All (P (x ∷ e))) (inItsBar m s) (all-take (P (x ∷ e)) (countFrom m s) (s .openBar) b) g)
       next s b g figureRepeat = g
       next s b g barRepeat = g
 

@@ -8,6 +8,8 @@ pub mod WholeBars
 pub mod Places
 pub mod FieldByField
 pub mod Kept
+pub mod Starts
+pub mod LaterBars
 pub mod Agreement
 pub mod Count
 pub mod Accepted

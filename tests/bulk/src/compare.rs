@@ -3,13 +3,20 @@
 
 use crate::library::{BAR, Cells, DIAGNOSTIC, DIAGNOSTICS, Lent, NOTE, Reading, all_zero};
 use crate::original::{Found, Original, Outcome, PITCH, PITCHES, ROOM, found};
-use crate::walk::{Needs, Refusal, TEXT, Walk, field_in, trimmed};
+use crate::taken_out::{due_at_closing, taken_out};
+use crate::walk::{Needs, Refusal, TEXT, Walk, data_in, field_in, trimmed};
 use crate::written::Written;
+use acorde_io::Diagnostic;
 
 /// Words of a note record, kinds of notes, and the place kind of the data.
 const KIND: usize = 1;
 const DURATION: usize = 2;
 const DOTS: usize = 3;
+const BEAM: usize = 5;
+const TUPLET: usize = 6;
+const MARK_COUNT: usize = 8;
+const PITCH_COUNT: usize = 10;
+const BAR_NUMBER: usize = 11;
 const REST: i32 = 1;
 const WHOLE_BARS: i32 = 4;
 const DATA: i32 = 3;
@@ -18,8 +25,11 @@ const DATA: i32 = 3;
 #[derive(Clone, Copy, Default)]
 pub struct Tally {
     pub texts: u64,
-    /// Texts that weren't compared.
-    pub left_out: u64,
+    /// The texts that close a group, beam or figure in a later bar.
+    pub later: u64,
+    /// Texts that weren't compared, for an `=` token; other ones, for a closing in a later bar.
+    pub left_out_whole_bars: u64,
+    pub left_out_later: u64,
     pub calls: u64,
     /// By number of the refusal; 0: accepted.
     pub numbers: [u64; 14],
@@ -45,12 +55,24 @@ pub enum WholeBars {
     Filled,
 }
 
+/// What becomes of texts that close a group, beam or figure in a later bar, which the original reads otherwise.
+#[derive(Clone, Copy, PartialEq, Eq)]
+pub enum LaterBars {
+    /// They are left out.
+    LeftOut,
+    /// The original reads the text with those taken out.
+    TakenOut,
+}
+
 pub struct Comparison {
     original: Original,
     walk: Walk,
     cells: Cells,
     whole_bars: WholeBars,
+    later_bars: LaterBars,
     written: Option<Written>,
+    /// What the original reads where something was taken out.
+    taken_out: Option<String>,
     pub tally: Tally,
 }
 
@@ -58,13 +80,15 @@ pub struct Comparison {
 pub type Checked = Result<(), String>;
 
 impl Comparison {
-    pub fn new(whole_bars: WholeBars) -> Self {
+    pub fn new(whole_bars: WholeBars, later_bars: LaterBars) -> Self {
         Self {
             original: Original::default(),
             walk: Walk::default(),
             cells: Cells::default(),
             whole_bars,
+            later_bars,
             written: None,
+            taken_out: None,
             tally: Tally::default(),
         }
     }
@@ -73,18 +97,21 @@ impl Comparison {
     /// Tells whether the text is to be compared.
     pub fn prepare(&mut self, text: &[u8]) -> Result<bool, String> {
         self.written = Written::of(text);
+        self.taken_out = None;
         if !self.followed(text) {
-            self.tally.left_out += 1;
+            self.tally.left_out_whole_bars += 1;
             return Ok(false);
         }
-        self.tally.texts += 1;
-        match (&self.written, str::from_utf8(text)) {
-            (Some(written), _) if self.whole_bars == WholeBars::WrittenOut => {
-                self.original.read(written.data().text)
+        if !self.walk.later.is_empty() {
+            self.take_out(text);
+            if self.taken_out.is_none() {
+                self.tally.left_out_later += 1;
+                return Ok(false);
             }
-            (_, Ok(text)) => self.original.read(text),
-            (_, Err(_)) => self.original = Original::default(),
+            self.tally.later += 1;
         }
+        self.tally.texts += 1;
+        self.ask(text);
         if !self.agreed() {
             return Err("the original and the harness's own walk differ".into());
         }
@@ -109,6 +136,41 @@ impl Comparison {
             _ => (&self.walk.felt, false),
         };
         !metered && !against.iter().any(|place| written.is_whole_bars(*place))
+    }
+
+    /// The line written out, if the original is to read it.
+    fn written_out(&self) -> Option<&Written> {
+        let written = self.written.as_ref();
+        written.filter(|_| self.whole_bars == WholeBars::WrittenOut)
+    }
+
+    /// Takes out what is closed in a later bar, unless such texts are left out.
+    fn take_out(&mut self, text: &[u8]) {
+        let later = &self.walk.later;
+        self.taken_out = match (self.later_bars, self.written_out()) {
+            (LaterBars::LeftOut, _) => None,
+            (_, Some(written)) => taken_out(written.data(), later, |place| place),
+            (_, None) => {
+                let data = data_in(text).ok();
+                data.and_then(|data| taken_out(data, later, |place| self.place(place)))
+            }
+        };
+    }
+
+    /// What the original reads in place of the text, if it does.
+    fn rewritten(&self) -> Option<&str> {
+        let written = self.written_out().map(|written| written.data().text);
+        self.taken_out.as_deref().or(written)
+    }
+
+    /// Has the original read the text, or what stands in its place.
+    fn ask(&mut self, text: &[u8]) {
+        let mut original = std::mem::take(&mut self.original);
+        match self.rewritten().or(str::from_utf8(text).ok()) {
+            Some(text) => original.read(text),
+            None => original = Original::default(),
+        }
+        self.original = original;
     }
 
     /// The place in the text of a place in what was followed.
@@ -177,11 +239,10 @@ impl Comparison {
             );
         }
         let due = self.walk.refusal(lent);
-        let written = self.written.as_ref().map_or(String::new(), |written| {
-            let text = written.data().text.as_bytes();
-            format!("\n  written out: \"{}\"", shortened(text))
+        let rewritten = self.rewritten().map_or(String::new(), |text| {
+            format!("\n  the original reads: \"{}\"", shortened(text.as_bytes()))
         });
-        format!("{library}\n  {original}\n  due refusal: {due:?}{written}")
+        format!("{library}\n  {original}\n  due refusal: {due:?}{rewritten}")
     }
 
     fn accepted(&self) -> Reading {
@@ -304,16 +365,30 @@ impl Comparison {
         let starts = written.map_or(&self.walk.starts, |written| &written.starts);
         let words = stored.chunks_exact(DIAGNOSTIC);
         for (at, (words, diagnostic)) in words.zip(&self.original.diagnostics).enumerate() {
-            let mut due = found(diagnostic);
-            if due.place_kind == DATA && self.whole_bars == WholeBars::WrittenOut {
-                due.place = self.place(due.place as u32) as i32;
-            }
+            let due = self.due(diagnostic);
             if !same_diagnostic(text, starts, words, &due) {
                 return Err(format!("diagnostic {at} differs: {words:?}"));
             }
             self.tally.diagnostics[due.number as usize] += 1;
         }
         Ok(())
+    }
+
+    /// What is due for a diagnostic of the original.
+    fn due<'a>(&self, diagnostic: &'a Diagnostic) -> Found<'a> {
+        let mut due = found(diagnostic);
+        if due.place_kind != DATA {
+            return due;
+        }
+        if self.written_out().is_some() {
+            due.place = self.place(due.place as u32) as i32;
+        }
+        let closing = &self.walk.later.closing;
+        let at = closing.binary_search_by_key(&due.place, |(place, _)| self.place(*place) as i32);
+        match at {
+            Ok(at) => due_at_closing(closing[at].1, due),
+            Err(_) => due,
+        }
     }
 }
 
@@ -381,6 +456,45 @@ fn line_value(text: &str, due: &Found) -> Option<usize> {
         return Some(line.0);
     }
     field_in(text, line).map(|field| field.value.0)
+}
+
+/// An answer in few words, as `C D{ E} / F(3) =*; d10 at 8`: each note's letters, `-` or `=` for a rest; behind it `{`, `,`
+/// or `}` where a beam begins, goes on or ends, the notes of a tuplet, and a `*` for each mark; then the diagnostics.
+pub fn told(reading: Reading, cells: &Cells) -> String {
+    if reading.number != 0 {
+        return format!("refused {} at {}", reading.number, reading.place);
+    }
+    let mut out = String::new();
+    let mut bar = 1;
+    let notes = cells.notes().chunks_exact(NOTE);
+    for words in notes.take(reading.notes as usize) {
+        let space = if out.is_empty() { "" } else { " " };
+        out += if words[BAR_NUMBER] == bar {
+            space
+        } else {
+            " / "
+        };
+        bar = words[BAR_NUMBER];
+        let pitches = words[PITCHES..].chunks_exact(PITCH);
+        for pitch in pitches.take(words[PITCH_COUNT] as usize) {
+            out += &"CDEFGAB"[pitch[1] as usize..][..1];
+        }
+        out += match words[KIND] {
+            REST => "-",
+            WHOLE_BARS => "=",
+            _ => "",
+        };
+        out += ["", "{", ",", "}"][words[BEAM] as usize];
+        if words[TUPLET] != 0 {
+            out += &format!("({})", words[TUPLET]);
+        }
+        out += &"*".repeat(words[MARK_COUNT] as usize);
+    }
+    let found = cells.diagnostics().chunks_exact(DIAGNOSTIC);
+    for words in found.take(reading.diagnostics as usize) {
+        out += &format!("; d{} at {}", words[0], words[2]);
+    }
+    out
 }
 
 fn whole_bars_in(notes: &[i32]) -> u64 {

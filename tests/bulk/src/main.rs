@@ -6,11 +6,12 @@ mod original;
 mod random;
 mod run;
 mod speed;
+mod taken_out;
 mod texts;
 mod walk;
 mod written;
 
-use compare::WholeBars;
+use compare::{LaterBars, WholeBars};
 use library::Cells;
 use random::Random;
 use run::Run;
@@ -32,7 +33,15 @@ struct Options {
 }
 
 /// The sections that run where none is named, and those that run only then.
-const SECTIONS: [&str; 6] = ["ascii", "alphabets", "utf8", "limits", "random", "rests"];
+const SECTIONS: [&str; 7] = [
+    "ascii",
+    "alphabets",
+    "utf8",
+    "limits",
+    "random",
+    "rests",
+    "groups",
+];
 const NAMED: [&str; 3] = ["scalars", "speed", "beside"];
 
 fn options() -> Result<Options, String> {
@@ -81,6 +90,7 @@ fn main() -> ExitCode {
             "limits" => faults += at_limits(),
             "random" => faults += random_lines(options.until, options.seed),
             "rests" => faults += rests(options.until, options.seed),
+            "groups" => faults += groups(options.until, options.seed),
             "beside" => speed::beside(),
             _ => speed::table(),
         }
@@ -221,15 +231,36 @@ fn at_limits() -> u64 {
         limits::few_sizes,
     ) + each(
         "rests of whole bars, written out: all lent sizes around the needs",
-        Run::with(WholeBars::WrittenOut, 1),
+        Run::with(WholeBars::WrittenOut, LaterBars::LeftOut, 1),
         limits::sized_rests(),
         limits::sizes,
     ) + each(
         "rests of whole bars, written out: 65,533 to 65,537 bytes, about 100,000 notes",
-        Run::with(WholeBars::WrittenOut, 1),
+        Run::with(WholeBars::WrittenOut, LaterBars::LeftOut, 1),
         limits::many_rests(),
         limits::few_sizes,
+    ) + each(
+        "closings in a later bar, taken out: all lent sizes around the needs",
+        Run::with(WholeBars::LeftOut, LaterBars::TakenOut, 1),
+        limits::sized_later(),
+        limits::sizes,
+    ) + each(
+        "the same with rests of whole bars, written out",
+        Run::with(WholeBars::WrittenOut, LaterBars::TakenOut, 1),
+        limits::sized_later_rests(),
+        limits::sizes,
+    ) + each(
+        "closings in a later bar, taken out: 65,533 to 65,537 bytes, 31 and more diagnostics, about 100,000 notes",
+        Run::with(WholeBars::LeftOut, LaterBars::TakenOut, 1),
+        limits::many_later(),
+        limits::few_sizes,
+    ) + each(
+        "closings in a later bar, taken out, `=` written out: 65,535 to 65,537 bars between",
+        Run::with(WholeBars::WrittenOut, LaterBars::TakenOut, 1),
+        limits::many_later_rests(),
+        limits::few_sizes,
     ) + stated()
+        + stated_later()
 }
 
 /// Texts with rests of whole bars whose answers are stated by hand.
@@ -250,28 +281,57 @@ fn stated() -> u64 {
     faults
 }
 
+/// Texts with groups, beams and figures over barlines whose answers are stated by hand.
+fn stated_later() -> u64 {
+    let mut cells = Cells::default();
+    let mut faults = 0;
+    for (text, figure, due) in limits::STATED_LATER {
+        let needs = walk::Needs {
+            notes: 100,
+            bars: 100,
+            figure,
+        };
+        let reading = cells.read(text.as_bytes(), compare::ample(needs));
+        let told = compare::told(reading, &cells);
+        if told != due {
+            faults += 1;
+            println!("FAULT \"{text}\"");
+            println!("  library: {told}\n  due:     {due}");
+        }
+    }
+    println!("groups, beams and figures over barlines, stated by hand");
+    println!("  {} texts, {faults} faults", limits::STATED_LATER.len());
+    faults
+}
+
 fn random_lines(until: Until, seed: u64) -> u64 {
     let title = format!("random lines, field forms and slips, seed {seed}");
     drawn(&title, Run::new(seed), until, seed, lines::random_text)
 }
 
-/// Texts with rests of whole bars, in both ways in which the original can be asked about them.
+/// The ways in which the original can be asked about rests of whole bars.
+const WAYS: [(&str, WholeBars); 2] = [
+    ("`=` written out", WholeBars::WrittenOut),
+    ("`=` in empty bars, no meter", WholeBars::Filled),
+];
+
+/// Texts with rests of whole bars, in both ways.
 fn rests(until: Until, seed: u64) -> u64 {
-    let ways = [
-        ("`=` written out", WholeBars::WrittenOut),
-        ("`=` in empty bars, no meter", WholeBars::Filled),
-    ];
     let mut faults = 0;
-    for (way, whole_bars) in ways {
+    for (way, whole_bars) in WAYS {
         let mut all = |texts: &str, name, parts: &[&[u8]]| {
             let title = format!("all texts of up to 6 of {texts} ({name}), {way}");
-            faults += section(&title, Run::with(whole_bars, 1), |run| {
-                short::all_of(parts, 6, &mut |text| {
-                    if !run.full() {
-                        run.text(text)
-                    }
-                });
-            });
+            faults += section(
+                &title,
+                Run::with(whole_bars, LaterBars::LeftOut, 1),
+                |run| {
+                    short::all_of(parts, 6, &mut |text| {
+                        if !run.full() {
+                            run.text(text)
+                        }
+                    });
+                },
+            );
         };
         for (name, alphabet) in short::REST_ALPHABETS {
             let parts: Vec<&[u8]> = alphabet.chunks(1).collect();
@@ -281,8 +341,54 @@ fn rests(until: Until, seed: u64) -> u64 {
             all(&format!("{parts:?}"), name, &parts.map(str::as_bytes));
         }
         let title = format!("random lines with rests of whole bars, {way}, seed {seed}");
-        let run = Run::with(whole_bars, seed);
+        let run = Run::with(whole_bars, LaterBars::LeftOut, seed);
         faults += drawn(&title, run, until, seed, lines::random_rests);
+    }
+    faults
+}
+
+/// Texts with groups, beams and figures; what is closed in a later bar is taken out for the original.
+fn groups(until: Until, seed: u64) -> u64 {
+    let mut faults = 0;
+    let plain = ("no `=`", WholeBars::LeftOut);
+    let mut all = |(way, whole_bars), texts: String, name, parts: &[&[u8]], most| {
+        let title = format!(
+            "all texts of up to {most} of {texts} ({name}), closings in a later bar taken out, {way}"
+        );
+        let run = Run::with(whole_bars, LaterBars::TakenOut, 1);
+        faults += section(&title, run, |run| {
+            short::all_of(parts, most, &mut |text| {
+                if !run.full() {
+                    run.text(text)
+                }
+            });
+        });
+    };
+    for (name, alphabet, most) in short::GROUP_ALPHABETS {
+        let parts: Vec<&[u8]> = alphabet.chunks(1).collect();
+        let texts = format!("`{}`", alphabet.escape_ascii());
+        all(plain, texts, name, &parts, most);
+    }
+    for (name, parts, most) in short::GROUP_PARTS {
+        let texts = format!("{parts:?}");
+        all(plain, texts, name, &parts.map(str::as_bytes), most);
+    }
+    for way in WAYS {
+        for (name, parts, most) in short::GROUP_REST_PARTS {
+            let texts = format!("{parts:?}");
+            all(way, texts, name, &parts.map(str::as_bytes), most);
+        }
+    }
+    for (way, whole_bars) in [plain].into_iter().chain(WAYS) {
+        let title = format!(
+            "random lines with groups, closings in a later bar taken out, {way}, seed {seed}"
+        );
+        let run = Run::with(whole_bars, LaterBars::TakenOut, seed);
+        let draw = match whole_bars {
+            WholeBars::LeftOut => lines::random_groups,
+            _ => lines::random_rest_groups,
+        };
+        faults += drawn(&title, run, until, seed, draw);
     }
     faults
 }
@@ -328,10 +434,15 @@ fn section(title: &str, mut run: Run, body: impl FnOnce(&mut Run)) -> u64 {
         count => format!(" ({count} of them rests of whole bars)"),
     };
     println!("{title}");
+    let later = match tally.later {
+        0 => String::new(),
+        count => format!(" ({count} of them closing in a later bar)"),
+    };
     println!(
-        "  {} texts, {} left out, {} calls, {} faults, {:.1} s",
+        "  {} texts{later}, left out {} for `=` and {} for a closing in a later bar, {} calls, {} faults, {:.1} s",
         tally.texts,
-        tally.left_out,
+        tally.left_out_whole_bars,
+        tally.left_out_later,
         tally.calls,
         tally.faults,
         begun.elapsed().as_secs_f64()

@@ -1,6 +1,6 @@
 //! Runs texts through the comparison, counts them, and cuts down and prints those that differ.
 
-use crate::compare::{Checked, Comparison, Tally, WholeBars, shortened};
+use crate::compare::{Checked, Comparison, LaterBars, Tally, WholeBars, shortened};
 use crate::library::{BAR, Lent, NOTE};
 use crate::random::Random;
 use crate::walk::Needs;
@@ -17,14 +17,14 @@ pub struct Run {
 }
 
 impl Run {
-    /// Leaves texts with an `=` token out.
+    /// Leaves texts out that have an `=` token, or close a group, beam or figure in a later bar.
     pub fn new(seed: u64) -> Self {
-        Self::with(WholeBars::LeftOut, seed)
+        Self::with(WholeBars::LeftOut, LaterBars::LeftOut, seed)
     }
 
-    pub fn with(whole_bars: WholeBars, seed: u64) -> Self {
+    pub fn with(whole_bars: WholeBars, later_bars: LaterBars, seed: u64) -> Self {
         Self {
-            comparison: Comparison::new(whole_bars),
+            comparison: Comparison::new(whole_bars, later_bars),
             random: Random::new(seed),
         }
     }

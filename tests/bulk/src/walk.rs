@@ -1,8 +1,10 @@
 //! Places and refusals, which the original doesn't have, worked out from the text by document 01: where each record comes
-//! from, and where a reading stops. Held against the original's counts on every text that both read to the end.
+//! from, and where a reading stops. Held against the original's counts on every text that both read to the end. And what
+//! is closed in a later bar, which the original reads otherwise (document 02, R-4).
 
 use crate::library::{BAR, DIAGNOSTICS, Lent, NOTE};
 use crate::original::ROOM;
+use std::ops::Range;
 
 /// The longest text, and the most notes.
 pub const TEXT: usize = 65_535;
@@ -35,10 +37,39 @@ pub struct Needs {
     pub figure: usize,
 }
 
+/// A token of ASCII: its place, and how many characters it has.
 #[derive(Clone, Copy)]
-struct Group {
-    start: usize,
+pub struct Sign {
+    pub place: u32,
+    pub size: usize,
+}
+
+/// An open group, beam or figure.
+struct Opened {
+    /// How many bars were stored before its own, and how long that was at its start.
+    bar: usize,
+    from: usize,
+    /// Whether it has a count.
     counted: bool,
+    /// The signs that opened it and those that it replaced, and their good counts.
+    signs: Vec<Sign>,
+}
+
+/// The signs of groups, beams and figures that are closed in a later bar, also in one that is still empty. A barline in
+/// an empty bar starts no later one.
+#[derive(Default)]
+pub struct Later {
+    /// Those that open them, or count in them.
+    pub opening: Vec<Sign>,
+    /// The place of each `)` and second `!`, from the left, and the number of the diagnostic that is due there.
+    pub closing: Vec<(u32, i32)>,
+}
+
+impl Later {
+    /// Whether none is closed so. A beam has no diagnostic, but was opened.
+    pub fn is_empty(&self) -> bool {
+        self.opening.is_empty()
+    }
 }
 
 #[derive(Default)]
@@ -53,13 +84,17 @@ pub struct Walk {
     pub felt: Vec<u32>,
     /// The places of rests in a bar that has a note or rest already, graces aside.
     pub behind: Vec<u32>,
+    /// What is closed in a later bar. A closing behind the stop isn't read, and isn't here: such a text is refused by what
+    /// stands before, which the original reads alike. One that only few lent cells stop earlier is here.
+    pub later: Later,
     bars: Vec<u32>,
     figures: Vec<(u32, usize)>,
     figure: Vec<Record>,
     first: usize,
     last_bar: (usize, usize),
-    mark: Option<usize>,
-    group: Option<Group>,
+    mark: Option<Opened>,
+    group: Option<Opened>,
+    beam: Option<Opened>,
     chord: bool,
     grace: bool,
     grace_group: bool,
@@ -98,6 +133,9 @@ impl Walk {
         std::mem::swap(&mut fresh.starts, &mut self.starts);
         std::mem::swap(&mut fresh.felt, &mut self.felt);
         std::mem::swap(&mut fresh.behind, &mut self.behind);
+        std::mem::swap(&mut fresh.later, &mut self.later);
+        fresh.later.opening.clear();
+        fresh.later.closing.clear();
         fresh.starts.clear();
         fresh.felt.clear();
         fresh.behind.clear();
@@ -184,14 +222,17 @@ impl Walk {
             b"r" => self.grace_group = false,
             b"t" if self.open() > 0 => return self.mark_at(self.records.len() - 1),
             b"/" | b"//" | b"//:" | b"://" | b"://:" => self.close(place),
-            b"(" => {
-                self.group = Some(Group {
-                    start: self.open(),
-                    counted: false,
-                })
+            b"{" => {
+                let replaced = self.beam.take();
+                self.beam = Some(self.opened(replaced, place));
             }
-            [b';', digits @ ..] => self.count(digits),
-            b")" => return self.close_group(),
+            b"}" => self.close_beam(),
+            b"(" => {
+                let replaced = self.group.take();
+                self.group = Some(self.opened(replaced, place));
+            }
+            [b';', digits @ ..] => self.count(digits, place),
+            b")" => return self.close_group(place),
             b"!" => self.mark_figure(place),
             b"f" => return self.append_figure(place),
             b"i" if self.open() == 0 && !self.bars.is_empty() => return self.repeat_bar(place),
@@ -268,7 +309,28 @@ impl Walk {
         }
     }
 
-    fn count(&mut self, digits: &[u8]) {
+    /// A group, beam or figure that starts here, in place of an open one.
+    fn opened(&self, replaced: Option<Opened>, place: u32) -> Opened {
+        let mut signs = replaced.map_or_else(Vec::new, |replaced| replaced.signs);
+        signs.push(Sign { place, size: 1 });
+        Opened {
+            bar: self.bars.len(),
+            from: self.open(),
+            counted: false,
+            signs,
+        }
+    }
+
+    /// The records of one that is closed here; none in a later bar.
+    fn closed(&mut self, opened: Opened) -> Option<Range<usize>> {
+        if opened.bar == self.bars.len() {
+            return Some(self.first + opened.from..self.records.len());
+        }
+        self.later.opening.extend(opened.signs);
+        None
+    }
+
+    fn count(&mut self, digits: &[u8], place: u32) {
         let value = digits.iter().fold(0_u32, |value, digit| {
             (value * 10 + u32::from(digit - b'0')).min(256)
         });
@@ -277,34 +339,46 @@ impl Walk {
             && value < 256
         {
             group.counted = true;
+            let size = 1 + digits.len();
+            group.signs.push(Sign { place, size });
+        }
+    }
+
+    fn close_beam(&mut self) {
+        if let Some(beam) = self.beam.take() {
+            self.closed(beam);
         }
     }
 
     /// A group of one record without a count is a fermata.
-    fn close_group(&mut self) -> Result<(), u32> {
-        let open = self.open();
-        let Some(group) = self.group.take().filter(|group| group.start <= open) else {
+    fn close_group(&mut self, place: u32) -> Result<(), u32> {
+        let Some(group) = self.group.take() else {
             return Ok(());
         };
-        let from = self.first + group.start;
-        let mut timed = (from..self.records.len()).filter(|index| !self.records[*index].grace);
+        let counted = group.counted;
+        let Some(records) = self.closed(group) else {
+            self.later.closing.push((place, 10));
+            return Ok(());
+        };
+        let mut timed = records.filter(|index| !self.records[*index].grace);
         match (timed.next(), timed.next()) {
-            (Some(single), None) if !group.counted => self.mark_at(single),
+            (Some(single), None) if !counted => self.mark_at(single),
             _ => Ok(()),
         }
     }
 
     fn mark_figure(&mut self, place: u32) {
-        let Some(start) = self.mark.take() else {
-            self.mark = Some(self.open());
+        let Some(figure) = self.mark.take() else {
+            self.mark = Some(self.opened(None, place));
             return;
         };
-        if start <= self.open() {
-            self.figure.clear();
-            self.figure
-                .extend_from_slice(&self.records[self.first + start..]);
-            self.figures.push((place, self.figure.len()));
-        }
+        let Some(records) = self.closed(figure) else {
+            self.later.closing.push((place, 17));
+            return;
+        };
+        self.figure.clear();
+        self.figure.extend_from_slice(&self.records[records]);
+        self.figures.push((place, self.figure.len()));
     }
 
     fn append_figure(&mut self, place: u32) -> Result<(), u32> {
@@ -410,7 +484,7 @@ pub fn data_in(text: &[u8]) -> Result<Data<'_>, u32> {
 }
 
 /// Where the data stands; none in field form without a data field.
-fn data_of(text: &str) -> Option<(usize, usize)> {
+pub fn data_of(text: &str) -> Option<(usize, usize)> {
     if !text.contains('@') {
         return Some((0, text.len()));
     }

@@ -38,11 +38,12 @@ impl Random {
     }
 }
 
-/// Which lines are drawn: with `=` tokens, or without the byte `=`.
+/// Which lines are drawn: with `=` tokens, without the byte `=`, or about groups, beams and figures over barlines.
 #[derive(Clone, Copy, PartialEq)]
 pub enum Lines {
     Rests,
     Plain,
+    Groups,
 }
 
 const LETTERS: [&str; 7] = ["C", "D", "E", "F", "G", "A", "B"];
@@ -169,7 +170,112 @@ fn piece(random: &mut Random, lines: Lines) -> String {
     }
 }
 
+/// One or, with a blank between, two barlines. The second stands in an empty bar.
+fn barline(random: &mut Random) -> String {
+    let forms = ["/", "/", "/", "//", "//:", "://", "://:"];
+    let first = random.of(&forms);
+    if random.one_in(5) { format!("{first} {}", random.of(&forms)) } else { first.to_string() }
+}
+
+/// A count of a group, most of them taken.
+fn count(random: &mut Random) -> String {
+    match random.below(6) {
+        0 => random.of(&[";", ";0", ";256", ";255", ";005", ";999999999999"]).to_string(),
+        _ => format!(";{}", 1 + random.below(6)),
+    }
+}
+
+/// What fills a group: most of these store a record.
+fn filling(random: &mut Random) -> String {
+    match random.below(40) {
+        0..20 => random.of(&LETTERS).to_string(),
+        20..23 => "-".to_string(),
+        23..27 => random.of(&["gD", "qE", "qqCDr", "g", "q", "qq", "r"]).to_string(),
+        27..30 => format!("{}^{}", random.of(&LETTERS), random.of(&LETTERS)),
+        30..32 => "C+".to_string(),
+        32..34 => random.of(&["Dt", "t", "+", "^"]).to_string(),
+        34 if random.one_in(3) => format!("E{}", "t".repeat(7 + random.below(2))),
+        34..37 => random.of(&["f", "i", "f"]).to_string(),
+        37 => random.of(&["x", "b", "n", "'", ",", "84", "4.", "6"]).to_string(),
+        38 => random.of(&["?", "H", ":", "é", "=0", "=1001", "r", ";", "%G", "@3", "$x"]).to_string(),
+        _ => random.of(&[" ", "$xF", "@3/4 ", "%F-4"]).to_string(),
+    }
+}
+
+/// A piece of a line about groups, beams and figures over barlines.
+fn group_piece(random: &mut Random) -> String {
+    match random.below(100) {
+        0..34 => filling(random),
+        34..48 => barline(random),
+        48..55 => "(".to_string(),
+        55..62 => ")".to_string(),
+        62..66 => count(random),
+        66..70 => "{".to_string(),
+        70..74 => "}".to_string(),
+        74..82 => "!".to_string(),
+        82..86 => "f".to_string(),
+        86..89 => "i".to_string(),
+        89..92 => random.of(&["=", "=1", "="]).to_string(),
+        92..96 => random.of(&["=2", "=2", "=3", "=4", "=02"]).to_string(),
+        _ => over(random),
+    }
+}
+
+fn fillings(random: &mut Random, most: usize) -> String {
+    (0..random.below(most + 1)).map(|_| filling(random)).collect()
+}
+
+/// A group, beam or figure, most with barlines between its ends, at times all of them in an empty bar.
+fn over(random: &mut Random) -> String {
+    let (left, right) = match random.below(8) {
+        0..4 => ("(", ")"),
+        4 | 5 => ("{", "}"),
+        _ => ("!", "!"),
+    };
+    let mut text = fillings(random, 1) + left + &fillings(random, 2);
+    for _ in 0..if random.one_in(6) { 0 } else { 1 + random.small(3) } {
+        if left == "(" && random.one_in(6) {
+            text += &count(random);
+        }
+        text += &if random.one_in(6) { random.of(&["=2", "=3", "=2"]).to_string() } else { barline(random) };
+        text += &fillings(random, 3);
+    }
+    if left == "(" && random.one_in(4) {
+        text += &count(random);
+    }
+    text += right;
+    // what is left behind the closing
+    text + match random.below(6) {
+        0 => random.of(&[")", "}", "!"]),
+        1 => random.of(&["f", "/f", "!f", "DE)", "DE}", "D!f"]),
+        _ => "",
+    }
+}
+
+/// A line about groups, beams and figures over barlines, most of 4 to 30 tokens.
+fn group_data(random: &mut Random) -> String {
+    let most = match random.below(20) {
+        0 => 40,
+        1..6 => 10,
+        _ => 5,
+    };
+    let mut pieces: Vec<String> = (0..1 + random.below(most)).map(|_| group_piece(random)).collect();
+    for _ in 0..[0, 1, 1, 1, 1, 1, 2, 2][random.below(8)] {
+        let at = random.below(pieces.len() + 1);
+        let piece = over(random);
+        pieces.insert(at, piece);
+    }
+    // a figure that is there already
+    if random.one_in(4) {
+        pieces.insert(0, random.of(&["!C!", "!CgD!", "!C^E-!", "!=!"]).to_string());
+    }
+    pieces.concat()
+}
+
 fn data(random: &mut Random, lines: Lines) -> String {
+    if lines == Lines::Groups {
+        return group_data(random);
+    }
     let most = if random.one_in(20) { 60 } else { 14 };
     let mut line: String = (0..1 + random.below(most)).map(|_| piece(random, lines)).collect();
     if random.one_in(10) {
@@ -242,6 +348,14 @@ fn limits(random: &mut Random, lines: Lines) -> String {
         let front = data(random, lines);
         front + " " + &piece.repeat(count) + " " + &data(random, lines)
     };
+    if lines == Lines::Groups {
+        let piece = random.of(&["(C/)", "!C/!", "(C/!D)!", "{C/D}(/)", "(=2)"]);
+        let count = 1000 + random.below(50);
+        return match random.below(3) {
+            0 => format!("{}!=1000!(=1000)!f{}", data(random, lines), data(random, lines)),
+            _ => many(random, piece, count),
+        };
+    }
     match random.below(6) {
         0 if lines == Lines::Rests => {
             let piece = random.of(&["=1000", "=1000/", "=1000=999=", "=500 C=500"]);

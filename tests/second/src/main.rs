@@ -6,7 +6,7 @@ mod model;
 
 use library::{Library, model_answer};
 use lines::{Lines, Random};
-use model::{Answer, BAR_WORDS, CELLS, Lent, NOTE_WORDS, Needs, read};
+use model::{Answer, BAR_WORDS, CELLS, Closings, Lent, NOTE_WORDS, Needs, read};
 
 /// Sizes that no reading needs more of.
 const AMPLE: Lent = Lent { notes: usize::MAX, bars: usize::MAX, figure: usize::MAX, diagnostics: CELLS };
@@ -21,6 +21,10 @@ struct Counts {
     diagnostics: [u64; 21],
     bar_rests: u64,
     with_bar_rests: u64,
+    closings: Closings,
+    /// Lines with a closing in a later bar, and with one in the same bar behind a barline.
+    with_later: u64,
+    with_same: u64,
 }
 
 impl Counts {
@@ -37,6 +41,12 @@ impl Counts {
         let rests = answer.notes.iter().filter(|note| note[1] == 4).count() as u64;
         self.bar_rests += rests;
         self.with_bar_rests += (rests > 0) as u64;
+        for i in 0..3 {
+            self.closings.later[i] += answer.closings.later[i];
+            self.closings.same[i] += answer.closings.same[i];
+        }
+        self.with_later += (answer.closings.later != [0; 3]) as u64;
+        self.with_same += (answer.closings.same != [0; 3]) as u64;
     }
 
     fn print(&self, calls: u64) {
@@ -51,6 +61,11 @@ impl Counts {
         println!("lines refused: {}", list("", &self.refused));
         println!("calls refused: {}", list("", &self.refused_calls));
         println!("diagnostics: {}", list("d", &self.diagnostics));
+        let closings = |counts: [u64; 3], lines: u64| {
+            format!("{} of ), {} of }}, {} of !; {lines} lines with at least one", counts[0], counts[1], counts[2])
+        };
+        println!("closed in a later bar: {}", closings(self.closings.later, self.with_later));
+        println!("closed in the same bar behind a barline: {}", closings(self.closings.same, self.with_same));
         println!("{} records of kind 4, {calls} calls", self.bar_rests);
     }
 }
@@ -173,7 +188,7 @@ fn random_lines(library: &mut Library, lines: Lines, count: u64, seed: u64) {
     println!("0 different");
 }
 
-const TURN: [&str; 32] = [
+const TURN: [&str; 40] = [
     "=3",
     "C=2D",
     "/=4/",
@@ -206,6 +221,14 @@ const TURN: [&str; 32] = [
     "g=2C",
     "qq=2Cr",
     "{=2-}",
+    "!CD/E!",
+    "!C!/!D/E!f",
+    "!C/D!EF!f",
+    "/!/CD!f",
+    "C(D/EFG)",
+    "(/C/D)",
+    "{CD/EF}",
+    "!=2!!C!f",
 ];
 
 /// Every lent size of notes and bars about the need, in whole records and one word less; and of the figure. They show
@@ -244,17 +267,20 @@ const PIECES: [&str; 27] = [
     "i", "g", "qq", "r", "84", "$xC",
 ];
 
-/// Every line of up to so many pieces, with enough lent.
-fn short(library: &mut Library, pieces: u32) {
+/// Pieces for groups, beams and figures over barlines.
+const OVER: [&str; 13] = ["C", "/", "(", ")", "{", "}", "!", "f", "i", "=2", ";5", "gD", "-"];
+
+/// Every line of up to so many of some pieces, with enough lent.
+fn short(library: &mut Library, words: &[&str], pieces: u32) {
     let mut random = Random::new(1);
     let mut counts = Counts::default();
     let before = library.calls;
     for length in 1..=pieces {
-        for mut chosen in 0..PIECES.len().pow(length) {
+        for mut chosen in 0..words.len().pow(length) {
             let mut text = Vec::new();
             for _ in 0..length {
-                text.extend_from_slice(PIECES[chosen % PIECES.len()].as_bytes());
-                chosen /= PIECES.len();
+                text.extend_from_slice(words[chosen % words.len()].as_bytes());
+                chosen /= words.len();
             }
             let needs = read(&text, AMPLE).needs;
             let lent = enough(needs, &mut random);
@@ -275,7 +301,7 @@ fn fail(message: &str) -> ! {
 
 fn main() {
     let mut sections = Vec::new();
-    let (mut count, mut seed, mut pieces) = (100_000, 1, 4);
+    let (mut count, mut seed, mut pieces) = (100_000, 1, None);
     let mut arguments = std::env::args().skip(1);
     let mut library = Library::default();
     while let Some(argument) = arguments.next() {
@@ -286,8 +312,8 @@ fn main() {
         match argument.as_str() {
             "--count" => count = number(),
             "--seed" => seed = number(),
-            "--pieces" => pieces = number() as u32,
-            "turn" | "random" | "plain" | "short" => sections.push(argument),
+            "--pieces" => pieces = Some(number() as u32),
+            "turn" | "random" | "plain" | "short" | "groups" | "over" => sections.push(argument),
             "show" => {
                 for text in arguments.by_ref() {
                     let text = text.as_bytes();
@@ -300,13 +326,15 @@ fn main() {
         }
     }
     if sections.is_empty() {
-        sections = vec!["turn".to_string(), "random".to_string()];
+        sections = ["turn", "random", "groups"].map(str::to_string).to_vec();
     }
     for section in sections {
         println!("{section}");
         match section.as_str() {
             "turn" => turn(&mut library),
-            "short" => short(&mut library, pieces),
+            "short" => short(&mut library, &PIECES, pieces.unwrap_or(4)),
+            "over" => short(&mut library, &OVER, pieces.unwrap_or(6)),
+            "groups" => random_lines(&mut library, Lines::Groups, count, seed),
             "plain" => random_lines(&mut library, Lines::Plain, count, seed),
             _ => random_lines(&mut library, Lines::Rests, count, seed),
         }

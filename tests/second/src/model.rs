@@ -1,5 +1,5 @@
-//! A second reader of Plaine & Easie Code, written from docs 01 (scope) and 02 (R-1, R-2) alone. The quoted sentences
-//! are the documents'. It is plain on purpose: tokens are cut first, then read one by one.
+//! A second reader of Plaine & Easie Code, written from docs 01 (scope) and 02 (R-1, R-2, R-4) alone. The quoted
+//! sentences are the documents'. It is plain on purpose: tokens are cut first, then read one by one.
 
 pub const NOTE_WORDS: usize = 44;
 pub const BAR_WORDS: usize = 10;
@@ -26,6 +26,7 @@ pub struct Answer {
     pub diagnostics: Vec<[i32; DIAGNOSTIC_WORDS]>,
     /// Records stored until the end or the refusal, and those of the longest figure.
     pub needs: Needs,
+    pub closings: Closings,
 }
 
 #[derive(Clone, Copy, Debug, Default, PartialEq)]
@@ -33,6 +34,14 @@ pub struct Needs {
     pub notes: usize,
     pub bars: usize,
     pub figure: usize,
+}
+
+/// Closings of `)`, `}` and `!` until the end or the refusal, counted to show what the lines test (R-4): in a later bar
+/// than the opening; and in the same bar, but behind a barline in the empty bar.
+#[derive(Clone, Copy, Debug, Default, PartialEq)]
+pub struct Closings {
+    pub later: [u64; 3],
+    pub same: [u64; 3],
 }
 
 const NOTE: i32 = 0;
@@ -336,6 +345,16 @@ fn pattern(token: &str) -> Vec<(i32, i32)> {
     elements
 }
 
+/// Where a group, beam or figure was opened: "A group, beam or figure is to remember its bar" (R-4), told by the bars
+/// stored before it, and the open bar's length.
+#[derive(Clone, Copy)]
+struct Start {
+    bar: usize,
+    length: usize,
+    /// For the counts only.
+    empty_barlines: usize,
+}
+
 struct State<'a> {
     text: &'a str,
     note_records: usize,
@@ -358,12 +377,15 @@ struct State<'a> {
     mark: Option<i32>,
     grace_group: bool,
     tie: bool,
-    beam: Option<usize>,
-    group: Option<usize>,
+    beam: Option<Start>,
+    group: Option<Start>,
     group_count: Option<u32>,
-    figure_start: Option<usize>,
+    figure_start: Option<Start>,
     figure: Vec<Note>,
     longest_figure: usize,
+    /// For the counts only: barlines in an empty bar, and the closings.
+    empty_barlines: usize,
+    closings: Closings,
 }
 
 impl<'a> State<'a> {
@@ -396,6 +418,8 @@ impl<'a> State<'a> {
             figure_start: None,
             figure: Vec::new(),
             longest_figure: 0,
+            empty_barlines: 0,
+            closings: Closings::default(),
         }
     }
 
@@ -554,10 +578,13 @@ impl<'a> State<'a> {
         if self.length() > 0 {
             self.close(right, place as u32)?;
             self.open.left = left;
-        } else if left == 2 {
-            // "An empty bar isn't stored; a left of 2 is noted on it."
+            return Ok(());
+        }
+        // "An empty bar isn't stored; a left of 2 is noted on it."
+        if left == 2 {
             self.open.left = 2;
         }
+        self.empty_barlines += 1;
         Ok(())
     }
 
@@ -662,10 +689,31 @@ impl<'a> State<'a> {
         (self.open_first + start..self.notes.len()).filter(|i| !self.notes[*i].is_grace()).collect()
     }
 
+    /// A start at the open bar's end.
+    fn start(&self) -> Start {
+        Start { bar: self.bars.len(), length: self.length(), empty_barlines: self.empty_barlines }
+    }
+
+    /// "Closed in a later bar" (R-4): a bar was stored since the start. "a barline in an empty bar starts no later
+    /// one", for it stores none. An inner barline of `=` has a record before it, so it does. Counted by what is closed.
+    fn in_later_bar(&mut self, start: Start, closed: usize) -> bool {
+        let later = self.bars.len() > start.bar;
+        if later {
+            self.closings.later[closed] += 1;
+        } else if self.empty_barlines > start.empty_barlines {
+            self.closings.same[closed] += 1;
+        }
+        later
+    }
+
     /// "`}` beams the open bar's non-grace records from that length on, rests too, if two or more; without `{` nothing."
     fn close_beam(&mut self) {
         let Some(start) = self.beam.take() else { return };
-        let beamed = self.non_grace_from(start);
+        // "a beam is dropped silently" (R-4)
+        if self.in_later_bar(start, 1) {
+            return;
+        }
+        let beamed = self.non_grace_from(start.length);
         if beamed.len() < 2 {
             return;
         }
@@ -677,18 +725,19 @@ impl<'a> State<'a> {
     }
 
     fn close_group(&mut self, token: Part, spot: Spot) -> Result<(), Refusal> {
-        // "`)` without `(` is d13; start beyond the bar's length, d10."
+        // "`)` without `(` is d13"
         let Some(start) = self.group.take() else {
             self.about(13, spot, token);
             return Ok(());
         };
         let count = self.group_count.take();
-        if start > self.length() {
+        // "Closed in a later bar, `(` always gives d10" (R-4, for 01's "start beyond the bar's length, d10")
+        if self.in_later_bar(start, 0) {
             self.diagnose([10, spot.kind, spot.place, 2, 0, 0]);
             return Ok(());
         }
         // "No non-grace record: nothing. One and no count: fermata."
-        let grouped = self.non_grace_from(start);
+        let grouped = self.non_grace_from(start.length);
         if grouped.is_empty() {
             return Ok(());
         }
@@ -713,18 +762,18 @@ impl<'a> State<'a> {
         Ok(())
     }
 
-    /// "First `!` notes the open bar's length; the second copies the notes from there into the figure, or is d17 if the
-    /// bar is now shorter."
+    /// "First `!` notes the open bar's length; the second copies the notes from there into the figure".
     fn figure_mark(&mut self, token: Part, spot: Spot) -> Result<(), Refusal> {
         let Some(start) = self.figure_start.take() else {
-            self.figure_start = Some(self.length());
+            self.figure_start = Some(self.start());
             return Ok(());
         };
-        if start > self.length() {
+        // "Closed in a later bar, [..] `!` d17" (R-4, for 01's "or is d17 if the bar is now shorter")
+        if self.in_later_bar(start, 2) {
             self.about(17, spot, token);
             return Ok(());
         }
-        let copied = self.notes[self.open_first + start..].to_vec();
+        let copied = self.notes[self.open_first + start.length..].to_vec();
         self.longest_figure = self.longest_figure.max(copied.len());
         // "closing `!`: 11, the figure passes the lent figure records"
         if copied.len() > self.figure_records {
@@ -800,11 +849,11 @@ impl<'a> State<'a> {
                 _ => self.about(19, spot, whole),
             },
             // "`{` notes the open bar's length as a start, as `(` does"
-            '{' => self.beam = Some(self.length()),
+            '{' => self.beam = Some(self.start()),
             '}' => self.close_beam(),
             // "`(` notes a start, replacing any open one."
             '(' => {
-                self.group = Some(self.length());
+                self.group = Some(self.start());
                 self.group_count = None;
             }
             // "`;` sets the open group's count, 0 to 255; without `(` or with other digits or none, d12."
@@ -865,7 +914,8 @@ impl<'a> State<'a> {
 
 /// "A refusal has counts 0".
 fn refused((number, place): Refusal, needs: Needs) -> Answer {
-    Answer { number, place, notes: Vec::new(), bars: Vec::new(), diagnostics: Vec::new(), needs }
+    let closings = Closings::default();
+    Answer { number, place, notes: Vec::new(), bars: Vec::new(), diagnostics: Vec::new(), needs, closings }
 }
 
 /// Reads a text. "Checks run in table order".
@@ -890,7 +940,7 @@ pub fn read(bytes: &[u8], lent: Lent) -> Answer {
     let result = state.whole();
     let needs = Needs { notes: state.notes.len(), bars: state.bars.len(), figure: state.longest_figure };
     match result {
-        Err(refusal) => refused(refusal, needs),
+        Err(refusal) => Answer { closings: state.closings, ..refused(refusal, needs) },
         Ok(()) => Answer {
             number: 0,
             place: 0,
@@ -898,6 +948,7 @@ pub fn read(bytes: &[u8], lent: Lent) -> Answer {
             bars: state.bars.iter().map(Bar::words).collect(),
             diagnostics: state.diagnostics,
             needs,
+            closings: state.closings,
         },
     }
 }

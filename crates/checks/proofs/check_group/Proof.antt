@@ -11,8 +11,8 @@ use Rattle.checks.proofs.check_group.Statement.{statement}
 use Rattle.checks.proofs.check_group.Tie as tie
 
 -- the record that a fermata marks stands in the open bar
-inside : (c : tie.Then1) → c .before .before .args .groups .paren .length + c .before .before .args .timed .last < openLength (c .before .before .args .counts)
-inside c = let s = c .before .before in fermata-inside (s .args .groups) (s .args .counts) (s .args .notes .now) (countIn (s .args .groups .count)) (s .pre .0) (sym (c .before .is-fermata .ensures) ∙ c .if1 .taken)
+inside : (c : tie.Then1) → c .before .before .args .groups .paren .from + c .before .before .args .timed .last < openLength (c .before .before .args .counts)
+inside c = let s = c .before .before in fermata-inside (s .args .groups) (s .args .counts) (s .args .notes .now) (s .pre .3) (countIn (s .args .groups .count)) (s .pre .0) (sym (c .before .is-fermata .ensures) ∙ c .if1 .taken)
 
 pub check-group-spec : {M : Type 1} → statement M
 check-group-spec =

@@ -1,16 +1,33 @@
-use borrow.Author.Tests.{lt-ltb, le-ltb}
+use borrow.Author.Tests.{eq-eqb, ne-eqb}
 use borrow.Author.Needs.{needs}
 use Rattle.remarks.proofs.group_found.Statement.{statement}
 use Rattle.remarks.proofs.group_found.Tie as tie
+
+closing-found-requires : tie.Need-closing-found-requires
+closing-found-requires c κs = search needs
+
+returns : tie.Need-returns
+returns c = rw (c .before .before .before .before .if1 .taken, eq-eqb _ _ (c .before .if2 .taken)) (c .closing-found .ensures)
+
+at-data-parentheses-requires : tie.Need-at-data-parentheses-requires
+at-data-parentheses-requires c κs = search needs
+
+returns-2 : tie.Need-returns-2
+returns-2 c = rw (c .before .before .before .before .if1 .taken, ne-eqb _ _ (c .before .if2 .left), c .at-data-parentheses .ensures)
+
+whole-requires : tie.Need-whole-requires
+whole-requires c κs = search needs
+
+returns-3 : tie.Need-returns-3
+returns-3 c = rw (c .before .if1 .left) (c .whole .ensures)
 
 pub group-found-spec : {M : Type 1} → statement M
 group-found-spec =
     tie.close
     (tie.spec
-    (λ c κs. search needs)
-    (λ c κs. search needs)
-    (λ c. rw (c .before .before .before .before .if1 .taken, ← c .before .before .before .open-length .ensures, lt-ltb _ _ (c .before .if2 .taken), c .at-data-parentheses .ensures))
-    (λ c κs. search needs)
-    (λ c. rw (c .before .before .before .before .if1 .taken, ← c .before .before .before .open-length .ensures, le-ltb _ _ (c .before .if2 .left)) (c .closing-found .ensures))
-    (λ c κs. search needs)
-    (λ c. rw (c .before .if1 .left) (c .whole .ensures)))
+    closing-found-requires
+    returns
+    at-data-parentheses-requires
+    returns-2
+    whole-requires
+    returns-3)

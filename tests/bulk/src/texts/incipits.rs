@@ -47,6 +47,18 @@ pub const REST_INCIPITS: [&str; 8] = [
     "@clef:G-2\n@keysig:xFC\n@title:Für Flöte\n@data:=8/'4F8GA/4=/F\n@timesig:3/4",
 ];
 
+/// Incipits with groups, beams and figures over a barline.
+pub const GROUP_INCIPITS: [&str; 8] = [
+    "%G-2@c '4C(8DE/FG)4A/{8CD/EF}4G/",
+    "$xFC@3/4 4C!DE/F!G/f/i/",
+    "@2/4 (8CDE;3)4F(/8CDE;3)4F/(C/;5D)/",
+    "4C{8DE//:FG}!C!f/!D://E!f/(F)",
+    "(4C(D/E)F)/{G{A/B}C}D/",
+    "!4C(D!E/!F)G!f/{f}/(i)",
+    "gC(qqDErF/gG)t/{-D/-}(-/)",
+    "@clef:G-2\n@title:Für Flöte\n@data:(4C/D)E{8F/G}!A/B!f\n@timesig:3/4",
+];
+
 const LETTERS: &[u8] = b"ABCDEFG";
 
 /// A line as a catalogue has it: clef, key and meter, then bars of about so many bytes in all.

@@ -1,7 +1,7 @@
 //! Texts at document 01's limits, and lent sizes around what a text needs.
 
 use super::characters::WIDE_BLANKS;
-use super::incipits::{FORMS, INCIPITS, RECORDS, REST_INCIPITS};
+use super::incipits::{FORMS, GROUP_INCIPITS, INCIPITS, RECORDS, REST_INCIPITS};
 use crate::compare::ample;
 use crate::library::{BAR, DIAGNOSTICS, Lent, NOTE, Reading};
 use crate::walk::Needs;
@@ -151,9 +151,7 @@ pub fn many_diagnostics() -> Vec<Vec<u8>> {
             ("@data:C", "\nx", ""),
             ("@data:C", "\n@a:b", ""),
             ("@data:C:", "\n@clef:+++", ""),
-            ("C", "(/)C", ""),
             ("", "(CC;1)", ""),
-            ("C", "!/!C", ""),
             ("C", "é", ""),
             ("C", "\u{3000}漢", ""),
             ("", "%é+𝄞 ", "C"),
@@ -252,15 +250,16 @@ pub fn sized_texts() -> Vec<Vec<u8>> {
         "(CDE;3)",
         "!!f",
         "!/!",
-        "C!/!",
+        "!/C!f",
+        "C/(/D)",
+        "(/Ctttttttt)",
         "C\x7f",
-        "!CC!f!f/!CCC!",
+        "!CC!f!f!/!CCC!",
         "CDEFGABCDEFG",
         "C/C/C/C/C",
         "//://:C",
         "@data:",
         "@data:C/D\n@clef:G-2",
-        "!C/D!f",
         "!CD!/i",
         "!C!/i/i/i!",
         "C!f!f",
@@ -303,26 +302,27 @@ pub fn sized_rests() -> Vec<Vec<u8>> {
         "C=0",
         "C=1001",
         "=0=2",
-        "!=2!f",
         "!==!f",
         "!C=D!ff",
-        "C!=2D!f",
         "!=!=2f",
+        "=2!=D!f",
+        "=2/!/=!f",
         "=2/i",
         "=2/i/i",
         "=2i",
         "C=2/i=",
         "(=)",
-        "(=2)",
+        "(=",
         "(==;3)",
-        "(=3)=2",
-        "C(=2D)",
+        "(=)=2",
+        "=2(=D)",
+        "(=2(=)",
         "=(C=;5)",
         "(=tttttttt)",
         "=tttttttt",
         "=ttttttttt",
         "{==}",
-        "{=2C}",
+        "{=2{=C}",
         "C{=D}",
         "x=C",
         "x=3C",
@@ -353,6 +353,161 @@ pub fn sized_rests() -> Vec<Vec<u8>> {
     ];
     let all = REST_INCIPITS.iter().chain(&more);
     all.map(|text| text.as_bytes().to_vec()).collect()
+}
+
+/// Texts that close a group, beam or figure in a later bar, for the same.
+pub fn sized_later() -> Vec<Vec<u8>> {
+    let more = [
+        "(C/)",
+        "(C/D)",
+        "(C/DE)F)",
+        "C(D/EFG)",
+        "C(D/;5)",
+        "(C/D;2)",
+        "(C;5/DE;)",
+        "(C(D/E)F)G",
+        "(C/)(D)(E/F)",
+        "(/C/D)",
+        "(C//:D)",
+        "(C://://:D)",
+        "(C/i)",
+        "(C/i/i)",
+        "!C!(/f)",
+        "(Ctttttttt/D)",
+        "(C/Dtttttttt)",
+        "(C/Dttttttttt)",
+        "(C/D)(Etttttttt)",
+        "(C/D^D^D^D^D^D^D^D^D)",
+        "!C/!",
+        "!C/D!",
+        "!C/D!f",
+        "!C/DEFG!",
+        "C!D/E!f",
+        "!C!!D/E!f",
+        "!CDE!!F/G!ff",
+        "!CD!f!/!f",
+        "!C/!!D!f",
+        "!C/!D!f!f",
+        "!C/i!f",
+        "!C/D!!E/F!!G!f",
+        "!C/D!i/i",
+        "!CC!f!f/!CCC!",
+        "{C/}",
+        "{C/D}",
+        "{C/DE}",
+        "{C/DE}FG}",
+        "{C{D/EF}GA}",
+        "{CD/EF}{GA}",
+        "{(C/D)E}",
+        "{(C!D/E}F)G!f",
+        "({!C/D!}f)",
+        "éC(é/漢D)",
+        "!é/C/é!f",
+        "(C/?D)?",
+        "@data:(C/D)",
+        "@data: (C/D){E/F} \n@title:x",
+        "@data:!C/D!\n@a:(",
+        "@a:(\n@data:{C/D}é",
+        "(@a:C/D)",
+        " {\n(@a:C/D)}",
+    ];
+    let all = GROUP_INCIPITS.iter().chain(&more);
+    all.map(|text| text.as_bytes().to_vec()).collect()
+}
+
+/// Such texts with rests of whole bars.
+pub fn sized_later_rests() -> Vec<Vec<u8>> {
+    let texts = [
+        "(=2)",
+        "(=2C)",
+        "(=2;3)",
+        "(=C=2)",
+        "(=/=)",
+        "C(=3D)E)",
+        "(=2tttttttt)",
+        "(=3)=2",
+        "C(=2D)",
+        "!=2!",
+        "!=2!f",
+        "C!=2D!f",
+        "!=!!=2!f",
+        "!C=3D!ff",
+        "!=2/i!f",
+        "{=2}",
+        "{=2C}",
+        "{=2CD}",
+        "{=C=2D}E}",
+        "({!=2)}!",
+        "=2(=/=2)",
+        "é(=2é)",
+        "@data:(=2)\n@a:é",
+    ];
+    texts.map(|text| text.as_bytes().to_vec()).to_vec()
+}
+
+/// Texts with such closings about 65,535 bytes long, with about 1,024 diagnostics, and about 100,000 notes.
+pub fn many_later() -> Vec<Vec<u8>> {
+    let frames = [
+        ("", "(C/)", ""),
+        ("", "!C/!", ""),
+        ("", "{C/D}", ""),
+        ("", "(C/D;5)", ""),
+        ("", "({!C/)}!f", ""),
+        ("!C!", "!/!f", ""),
+        ("(", "C/", ")"),
+        ("{(!", "C", "/)}!"),
+        ("", "(", "C/)"),
+        ("(C/", ";5", ")D"),
+        ("@data:", "(C/)", ""),
+        ("", "é(C/)", ""),
+    ];
+    let mut texts = Vec::new();
+    for size in 65_533..=65_537 {
+        texts.extend(frames.map(|(head, part, tail)| framed_whole(head, part, tail, size)));
+    }
+    let near = (31..=33).chain(62..=67).chain([127, 128, 129]);
+    for count in near.chain(1_022..=1_026).chain([1_500, 2_000]) {
+        for (head, part, tail) in [
+            ("C", "(/)C", ""),
+            ("C", "!/!C", ""),
+            ("C", "(!/)!C", ""),
+            ("(C/", "?", ")!D/!"),
+            ("(C/", "(/)!C/!(D/", ")"),
+            ("@data:C", "(/)C", "\n?"),
+        ] {
+            let text = head.to_string() + &part.repeat(count) + tail;
+            texts.push(text.into_bytes());
+        }
+    }
+    let bars = "C".repeat(1_000) + &"/i".repeat(99);
+    let notes = [
+        format!("{bars}!/!"),
+        format!("({bars})"),
+        format!("({bars})C"),
+        format!("!{bars}!f"),
+        format!("{{{bars}}}/)"),
+        format!("!C!({bars}/)f"),
+        format!("!{bars}/C!"),
+    ];
+    texts.extend(notes.map(String::into_bytes));
+    // 255 to 257 bars between a start and its end
+    for count in 255..=257 {
+        let bars = "C/".repeat(count);
+        let more = ["(", "{", "!"].map(|sign| format!("{sign}{bars}DE)}}!f"));
+        texts.extend(more.map(String::into_bytes));
+    }
+    texts
+}
+
+/// Texts with 65,535 to 65,537 bars between a start and its end, by rests of whole bars.
+pub fn many_later_rests() -> Vec<Vec<u8>> {
+    let mut texts = Vec::new();
+    for count in 536..=538 {
+        let bars = "=1000/".repeat(65) + &format!("={count}");
+        let more = ["(", "{", "!"].map(|sign| format!("{sign}{bars}DE)}}!f"));
+        texts.extend(more.map(String::into_bytes));
+    }
+    texts
 }
 
 /// Texts with rests of whole bars about 65,535 bytes long, and about 100,000 notes.
@@ -457,6 +612,77 @@ pub fn stated() -> Vec<(Vec<u8>, Lent, Reading)> {
     let few = few.map(|(text, notes, bars, due)| (text.into(), lent(notes, bars), due));
     ample.into_iter().chain(few).collect()
 }
+
+/// Texts with groups, beams and figures over barlines, how many records of a figure are lent, and the answers by document
+/// 02 in the words of `told`.
+pub const STATED_LATER: [(&str, usize, &str); 60] = [
+    // closed in a later bar
+    ("C(D/EFG)", 0, "C D / E F G; d10 at 8"),
+    ("(C/D)", 0, "C / D; d10 at 5"),
+    ("(C/)", 0, "C; d10 at 4"),
+    ("(C/DEF;5)", 0, "C / D E F; d10 at 9"),
+    ("{C/DE}", 0, "C / D E"),
+    ("{C/D}", 0, "C / D"),
+    ("{C/}", 0, "C"),
+    ("C{D/EFG}", 0, "C D / E F G"),
+    ("!C/!", 0, "C; d17 at 4"),
+    ("!C/D!", 0, "C / D; d17 at 5"),
+    ("C!/!", 0, "C; d17 at 4"),
+    ("(C/i)", 0, "C / C; d10 at 5"),
+    ("(C/D/E/)", 0, "C / D / E; d10 at 8"),
+    ("(C//:D)", 0, "C / D; d10 at 7"),
+    ("(C://D)", 0, "C / D; d10 at 7"),
+    ("(C:D)", 0, "C(3) D(3); d9 at 3"),
+    ("é(C/é)", 0, "C; d15 at 1; d15 at 5; d10 at 6"),
+    ("@data: (C/D)", 0, "C / D; d10 at 5"),
+    // a barline in an empty bar starts no later one
+    ("(/CDE)", 0, "C(3) D(3) E(3)"),
+    ("(/)C", 0, "C"),
+    ("(///C)", 0, "C*"),
+    ("(//:C)", 0, "C*"),
+    ("C/(/D)", 0, "C / D*"),
+    ("C/(/D/E)", 0, "C / D / E; d10 at 8"),
+    ("{/CD}", 0, "C{ D}"),
+    ("C/{//DE}", 0, "C / D{ E}"),
+    ("!/C!f", 1, "C C"),
+    ("C/!/D!f", 1, "C / D D"),
+    ("C(%/)", 0, "C; d3 at 3"),
+    // the start is used up, the old figure is kept
+    ("(C/D)E)", 0, "C / D E; d10 at 5; d13 at 7"),
+    ("(C/D)(E)", 0, "C / D E*; d10 at 5"),
+    ("{C/D}EF}", 0, "C / D E F"),
+    ("{C/D}{EF}", 0, "C / D E{ F}"),
+    ("!C!!D/E!f", 1, "C D / E C; d17 at 8"),
+    ("!C/D!f", 0, "C / D; d17 at 5; d18 at 6"),
+    ("!C/D!E!f", 0, "C / D E; d17 at 5; d18 at 8"),
+    ("!C/!D!E!f", 1, "C / D E E; d17 at 4"),
+    ("!C!/f", 1, "C / C"),
+    ("!C!/f/f", 1, "C / C / C"),
+    ("(C/(DEF)", 0, "C / D(3) E(3) F(3)"),
+    ("(C(D/E)F)", 0, "C D / E F; d10 at 7; d13 at 9"),
+    ("{C/{DE}", 0, "C / D{ E}"),
+    // counts in a later bar
+    ("C(D/;5)", 0, "C D; d10 at 7"),
+    ("(C/D;2)", 0, "C / D; d10 at 7"),
+    ("(C/D;)E", 0, "C / D E; d12 at 5; d10 at 6"),
+    ("(C/D);5", 0, "C / D; d10 at 5; d12 at 6"),
+    ("(C;5/D)(EF)", 0, "C / D E(3) F(3); d10 at 7"),
+    // rests of whole bars
+    ("(=2)", 0, "= / =; d10 at 4"),
+    ("!=2!", 0, "= / =; d17 at 4"),
+    ("{=2CD}", 0, "= / = C D"),
+    ("{=C}", 0, "={ C}"),
+    ("=2(=)", 0, "= / = =*"),
+    ("(=/=)", 0, "= / =; d10 at 5"),
+    // 10 and 11 are checked where it is closed in its own bar, and only there
+    ("(C/Dtttttttt)", 0, "C / D********; d10 at 13"),
+    ("(Ctttttttt/D)", 0, "C******** / D; d10 at 13"),
+    ("C/(/Dtttttttt)", 0, "refused 10 at 14"),
+    ("(C/Dttttttttt)", 0, "refused 10 at 13"),
+    ("!C/DE!", 0, "C / D E; d17 at 6"),
+    ("!/C!", 0, "refused 11 at 4"),
+    ("!C!!D/E!!F!", 0, "refused 11 at 3"),
+];
 
 /// Word counts around `need` records.
 fn around(need: usize, size: usize) -> Vec<usize> {

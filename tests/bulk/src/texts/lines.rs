@@ -1,7 +1,7 @@
 //! Random texts: lines of tokens, field forms, incipits with slips; some with characters beyond ASCII, some malformed.
 
 use super::characters::{ACCENTED, EDGES, NEAR_BLANKS, WIDE_BLANKS};
-use super::incipits::{FORMS, INCIPITS, RECORDS, REST_INCIPITS};
+use super::incipits::{FORMS, GROUP_INCIPITS, INCIPITS, RECORDS, REST_INCIPITS};
 use crate::random::Random;
 
 const LETTERS: &[u8] = b"ABCDEFG";
@@ -293,12 +293,38 @@ const MOODS: [&[(Kind, usize)]; 13] = [
     ],
 ];
 
+/// Groups, beams and figures among notes, barlines and what else they meet.
+const GROUPED: &[(Kind, usize)] = &[
+    (Letter, 8),
+    (Crossing, 3),
+    (Group, 4),
+    (Beam, 3),
+    (Figure, 4),
+    (Bar, 4),
+    (Tuplet, 1),
+    (Copied, 1),
+    (Marked, 1),
+    (Rest, 1),
+    (Grace, 1),
+    (Joined, 1),
+    (Tie, 1),
+    (Trill, 1),
+    (Repeat, 1),
+    (Meter, 1),
+    (Unknown, 1),
+    (Blank, 1),
+];
+
 /// Appends random texts to an empty buffer.
 pub struct Lines<'a> {
     random: &'a mut Random,
     text: &'a mut Vec<u8>,
     /// Of a hundred tokens of a data line, before how many a rest of whole bars stands.
     whole_bars: usize,
+    /// Of a hundred data lines, how many are full of groups, beams and figures; of a hundred of these over a barline, how
+    /// many have a note before it.
+    grouped: usize,
+    crossing: usize,
 }
 
 /// A random text in place of what stands in `text`.
@@ -309,6 +335,8 @@ pub fn random_text(random: &mut Random, text: &mut Vec<u8>) {
         random,
         text,
         whole_bars: 0,
+        grouped: 0,
+        crossing: 40,
     };
     match kind {
         0..57 => lines.data_line(),
@@ -335,11 +363,45 @@ pub fn random_rests(random: &mut Random, text: &mut Vec<u8>) {
         random,
         text,
         whole_bars,
+        grouped: 0,
+        crossing: 40,
     };
     match kind {
         0..70 => lines.data_line(),
         70..85 => lines.field_form(),
         _ => lines.mutated(&REST_INCIPITS),
+    }
+    if lines.random.percent(20) {
+        lines.accented();
+    }
+}
+
+/// A random text with groups, beams and figures, many closed in a later bar, in place of what stands in `text`.
+pub fn random_groups(random: &mut Random, text: &mut Vec<u8>) {
+    grouped(random, text, 0);
+}
+
+/// One with rests of whole bars besides.
+pub fn random_rest_groups(random: &mut Random, text: &mut Vec<u8>) {
+    let whole_bars = [2, 5, 10, 20][random.below(4)];
+    grouped(random, text, whole_bars);
+}
+
+fn grouped(random: &mut Random, text: &mut Vec<u8>, whole_bars: usize) {
+    text.clear();
+    let kind = random.below(100);
+    let mut lines = Lines {
+        random,
+        text,
+        whole_bars,
+        grouped: 80,
+        crossing: 80,
+    };
+    match kind {
+        0..65 => lines.data_line(),
+        65..85 => lines.field_form(),
+        85..95 => lines.mutated(&GROUP_INCIPITS),
+        _ => lines.mutated(&INCIPITS),
     }
     if lines.random.percent(20) {
         lines.accented();
@@ -377,10 +439,12 @@ impl Lines<'_> {
     }
 
     fn data_line(&mut self) {
-        let mood = if self.random.percent(33) {
-            0
+        let mood = if self.grouped > 0 && self.random.percent(self.grouped) {
+            GROUPED
+        } else if self.random.percent(33) {
+            MOODS[0]
         } else {
-            self.random.below(MOODS.len())
+            MOODS[self.random.below(MOODS.len())]
         };
         let count = match self.random.below(1_000) {
             0 => 200 + self.random.below(1_800),
@@ -391,7 +455,7 @@ impl Lines<'_> {
             if self.random.percent(self.whole_bars) {
                 self.whole_bars();
             }
-            self.weighted(MOODS[mood]);
+            self.weighted(mood);
         }
     }
 
@@ -579,12 +643,19 @@ impl Lines<'_> {
         self.repeated(b'f', times);
     }
 
+    /// A group, beam or figure over a barline, or over one in an empty bar.
     fn crossing(&mut self) {
-        self.letters(3);
         let (open, close) = [("!", "!"), ("(", ")"), ("{", "}")][self.random.below(3)];
-        self.put(open);
-        self.letters(2);
-        self.put("/");
+        if self.random.percent(self.crossing) {
+            self.letters(3);
+            self.put(open);
+            self.letters(2);
+            self.put("/");
+        } else {
+            self.bar();
+            self.put(open);
+            self.bar();
+        }
         self.letters(3);
         self.put(close);
     }

@@ -71,3 +71,62 @@ pub const REST_PARTS: [(&str, [&str; 8]); 2] = [
         ["86", "C+", "=", "=3", "/", "D", "-", "q"],
     ),
 ];
+
+/// Alphabets for groups, beams and figures over barlines: for all texts of up to so many letters.
+pub const GROUP_ALPHABETS: [(&str, &[u8], usize); 7] = [
+    ("groups, figures, bars", b"C/()!f", 7),
+    ("groups, beams, bars", b"C/(){}", 7),
+    ("figures, copies, bars", b"C/!fi", 8),
+    ("groups, beams, figures", b"C/(){}!f", 6),
+    ("groups, counts, rests", b"C-/();3 ", 6),
+    ("beams, graces, copies", b"C-/{}gqi", 6),
+    ("barlines of all kinds", b"C/:(!){}", 6),
+];
+
+/// Parts for the same.
+pub const GROUP_PARTS: [(&str, [&str; 8], usize); 5] = [
+    (
+        "counts, good and bad",
+        ["(", ")", "/", "C", ";", ";2", ";0255", ";256"],
+        6,
+    ),
+    (
+        "chords, ties, copies",
+        ["!", "C^E", "/", "f", "^", "D+", "(", ")"],
+        6,
+    ),
+    (
+        "marks up to the limit",
+        ["(", "Cttttttt", "/", "t", ")", "!", "f", "i"],
+        6,
+    ),
+    (
+        "fields, lines, characters",
+        ["@data:", "(", "!", "{é", "C/", ")", "\n", "@a:"],
+        6,
+    ),
+    (
+        "attributes, accidentals, bars",
+        ["(", ")", "!", "xC", "$xF ", "//:", "f", "%F-4"],
+        6,
+    ),
+];
+
+/// Parts with rests of whole bars, for the same.
+pub const GROUP_REST_PARTS: [(&str, [&str; 8], usize); 3] = [
+    (
+        "groups, figures, bars",
+        ["=", "=2", "C", "(", ")", "!", "/", "f"],
+        6,
+    ),
+    (
+        "groups, beams, bars",
+        ["=", "=2", "C", "(", ")", "{", "}", "/"],
+        6,
+    ),
+    (
+        "groups, counts, trills",
+        ["=", "=3", "=0", "(", ";5", "t", ")", "/"],
+        6,
+    ),
+];

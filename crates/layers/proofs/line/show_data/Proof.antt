@@ -5,10 +5,10 @@ use Rattle.layers.proofs.line.show_data.Statement.{statement}
 use Rattle.layers.proofs.line.show_data.Tie as tie
 
 abbrev Inv-loop : tie.InvT-loop
-Inv-loop text «data» diagnostics outcome above₀ at₀ above at = (above ≤ at) × (at ≤ length «data»)
+Inv-loop text «data» opened diagnostics outcome above₀ at₀ above at = (above ≤ at) × (at ≤ length «data»)
 
 abbrev μ-loop : tie.MeasureT-loop
-μ-loop text «data» diagnostics outcome above₀ at₀ above at = length «data» - at
+μ-loop text «data» opened diagnostics outcome above₀ at₀ above at = length «data» - at
 
 pub show-data-spec : {M : Type 1} → statement M
 show-data-spec =

@@ -4,10 +4,10 @@ use Rattle.layers.proofs.marks.show_marks.Statement.{statement}
 use Rattle.layers.proofs.marks.show_marks.Tie as tie
 
 abbrev Inv-loop : tie.InvT-loop
-Inv-loop «data» ends count inside₀ k₀ inside k = Unit {0}
+Inv-loop «data» ends opened count inside₀ k₀ inside k = Unit {0}
 
 abbrev μ-loop : tie.MeasureT-loop
-μ-loop «data» ends count inside₀ k₀ inside k = count - k
+μ-loop «data» ends opened count inside₀ k₀ inside k = count - k
 
 pub show-marks-spec : {M : Type 1} → statement M
 show-marks-spec =

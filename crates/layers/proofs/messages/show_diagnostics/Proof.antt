@@ -4,10 +4,10 @@ use Rattle.layers.proofs.messages.show_diagnostics.Statement.{statement
 use Rattle.layers.proofs.messages.show_diagnostics.Tie as tie
 
 abbrev Inv-loop : tie.InvT-loop
-Inv-loop text diagnostics count «data» above most i₀ i = Unit {0}
+Inv-loop text opened diagnostics count «data» above most i₀ i = Unit {0}
 
 abbrev μ-loop : tie.MeasureT-loop
-μ-loop text diagnostics count «data» above most i₀ i = count - i
+μ-loop text opened diagnostics count «data» above most i₀ i = count - i
 
 pub show-diagnostics-spec : {M : Type 1} → statement M
 show-diagnostics-spec =

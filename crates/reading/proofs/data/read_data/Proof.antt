@@ -16,13 +16,14 @@ use Rattle.rules.specs.Limits.{noteSize}
 use Rattle.rules.specs.Tokens as rules
 use Rattle.rules.specs.Records.{isSome, Diagnostic}
 use Rattle.rules.specs.Words.{diagnosticWords}
-use Rattle.rules.specs.Rules.{closing, furtherBars}
+use Rattle.rules.specs.Rules.{Closing, closing, furtherBars}
 use Rattle.rules.specs.Diagnostics.{unless}
 use Rattle.text.proofs.BoolLaws.{both}
 use Rattle.text.proofs.TokenLaws.{token-some, token-within}
 use Rattle.values.specs.Rhythm.{Keeping, keptLimit, keeping, lengthIn, firstOf}
 use Rattle.limits.specs.declared.Attributes.{Attributes}
 use Rattle.limits.specs.declared.Counts.{Counts}
+use Rattle.limits.specs.declared.Start.{Start}
 use Rattle.limits.specs.declared.Pae.{Pae}
 use Rattle.values.specs.declared.rhythm.Cursor.{Cursor}
 use Rattle.values.specs.declared.rhythm.Octave.{Octave}
@@ -39,7 +40,7 @@ use Rattle.decode.specs.declared.Token.the-variants as t
 use Rattle.steps.specs.Accidentals.{Table, cleared, isNone, entry, entered, alterOf}
 use Rattle.steps.specs.Notes.{joinsOf, joinedCells, openedCells, restCells, wholeBarCells, tiedCells}
 use Rattle.steps.specs.Relation.{countIn}
-use Rattle.steps.specs.State.{withVoice, withCounts, withAttributes, withGroups, clefSet, keySet, meterSet, barAttributes, counted, startAt, figureMarked, figureClosed, beamSet, parenSet, countSet, tieSet}
+use Rattle.steps.specs.State.{withVoice, withCounts, withAttributes, withGroups, clefSet, keySet, meterSet, barAttributes, counted, Reached, figureMarked, beamSet, parenSet, countSet, tieSet}
 use Rattle.steps.specs.Steps.{stepped}
 use Rattle.steps.proofs.CountLaws.{first-below, last-below, length-notes}
 use Rattle.steps.proofs.TableLaws.{entered-lettered}
@@ -56,8 +57,7 @@ use Rattle.reading.specs.Ready.{PlaceReady, Ready}
 use Rattle.reading.specs.Rhythm.{takenNext}
 use Rattle.reading.specs.Walk.{Hand, armed, withDiagnostics, remarked}
 use Rattle.reading.specs.WholeBars.{Resting, restingIn, withResting, barsAdded, Sound}
-use Rattle.reading.proofs.ClosingLaws.{closing-noted, found-noted}
-use Rattle.reading.proofs.HoldLaws.{token-bytes, Holds, further, not-beyond, step-ready}
+use Rattle.reading.proofs.HoldLaws.{token-bytes, Holds, figure-reached, beam-reached, paren-reached, further, not-beyond, step-ready}
 use Rattle.reading.proofs.PlaceLaws.{low-tails}
 use Rattle.reading.proofs.DataLaws.{begins, finishes, stops-here, advances, rest-sound, stops-further, advances-further}
 use Rattle.reading.proofs.data.read_data.Statement.{statement}
@@ -156,6 +156,16 @@ module _ (x : tie.After-span-of Inv-loop μ-loop) where
 
   found-here : (what : rules.Item → List Diagnostic) {words : List (List ℤ)} → words ≡ map diagnosticWords (what (itemIn (x .span-of .result))) → words ≡ map diagnosticWords (what (itemIn (spanOf (placeAt at tails) at end start)))
   found-here what e = e ∙ ap (λ (s : Span). map diagnosticWords (what (itemIn s))) (x .span-of .ensures)
+
+  -- no start of the open bar is beyond its length
+  figure-here : Reached (st .groups .figure) (st .counts)
+  figure-here = figure-reached bytes start (attributesIn taken) (x .before .before .before .before .before .before .before .before .before .before .before .before .args .diagnostics) (x .before .before .before .before .before .before .before .before .before .before .before .before .args .scratch .now) (length (x .before .before .before .before .before .before .before .before .before .before .before .before .args .notes .now)) (length (x .before .before .before .before .before .before .before .before .before .before .before .before .args .bars .now)) (length (x .before .before .before .before .before .before .before .before .before .before .before .before .args .figure .now)) room 0 (x .before .before .before .before .before .loop .inv)
+
+  beam-here : Reached (st .groups .beam) (st .counts)
+  beam-here = beam-reached bytes start (attributesIn taken) (x .before .before .before .before .before .before .before .before .before .before .before .before .args .diagnostics) (x .before .before .before .before .before .before .before .before .before .before .before .before .args .scratch .now) (length (x .before .before .before .before .before .before .before .before .before .before .before .before .args .notes .now)) (length (x .before .before .before .before .before .before .before .before .before .before .before .before .args .bars .now)) (length (x .before .before .before .before .before .before .before .before .before .before .before .before .args .figure .now)) room 0 (x .before .before .before .before .before .loop .inv)
+
+  paren-here : Reached (st .groups .paren) (st .counts)
+  paren-here = paren-reached bytes start (attributesIn taken) (x .before .before .before .before .before .before .before .before .before .before .before .before .args .diagnostics) (x .before .before .before .before .before .before .before .before .before .before .before .before .args .scratch .now) (length (x .before .before .before .before .before .before .before .before .before .before .before .before .args .notes .now)) (length (x .before .before .before .before .before .before .before .before .before .before .before .before .args .bars .now)) (length (x .before .before .before .before .before .before .before .before .before .before .before .before .args .figure .now)) room 0 (x .before .before .before .before .before .loop .inv)
 
   -- the notes stand in the cells
   held-here : st .counts .notes * noteSize ≤ length notes
@@ -532,7 +542,7 @@ cast-column : tie.Need-cast-column Inv-loop μ-loop
 cast-column c = search needs
 
 mul-here : tie.Need-mul-here Inv-loop μ-loop
-mul-here c = search needs
+mul-here c = record { fits = omega (arith, decoded-as (c .before .before .before .before .before .before .before .before .before .before .before) (c .before .before .before .before .before .before .before .before .before .token3 .given .1) .1) }
 
 index-1-here : tie.Need-index-1-here Inv-loop μ-loop
 index-1-here c = decoded-as (c .before .before .before .before .before .before .before .before .before .before .before) (c .before .before .before .before .before .before .before .before .before .token3 .given .1) .1
@@ -824,7 +834,7 @@ enum-told-9 : tie.Need-enum-told-9 Inv-loop μ-loop
 enum-told-9 c = search needs
 
 check-mark-requires : tie.Need-check-mark-requires Inv-loop μ-loop
-check-mark-requires c κs = first-below (c .before .before .before .before .before .before .before .before .before .before .loop .inv .related .stored)
+check-mark-requires c κs = (first-below (c .before .before .before .before .before .before .before .before .before .before .loop .inv .related .stored), figure-here (c .before .before .before .before .before))
 
 stopped-requires-6 : tie.Need-stopped-requires-6 Inv-loop μ-loop
 stopped-requires-6 c κs = tt
@@ -844,20 +854,20 @@ same-length-24 c = c .before .before .before .before .before .before .before .be
 returns-6 : tie.Need-returns-6 Inv-loop μ-loop
 returns-6 c = stop-here (c .before .before .before .before .before .before .before .before) (c .before .before .before .before .before .before .token8 .given .1 ∙ ap (λ (w : Figure). t.Figure w) (c .before .before .before .enum-told9 .given .1)) (joining (c .before .before .before .before .before .before .before .before)) refl (c .before .before .check-mark .result) (c .stopped6 .ensures) (c .before .before .check-mark .ensures) (c .before .if7 .taken)
 
-open-length-requires : tie.Need-open-length-requires Inv-loop μ-loop
-open-length-requires c κs = first-below (c .before .before .before .before .before .before .before .before .before .before .before .before .loop .inv .related .stored)
-
 mark-found-requires : tie.Need-mark-found-requires Inv-loop μ-loop
-mark-found-requires c κs = fits-here (c .before .before .before .before .before .before .before .before)
+mark-found-requires c κs = fits-here (c .before .before .before .before .before .before .before)
 
 store-found-requires-7 : tie.Need-store-found-requires-7 Inv-loop μ-loop
 store-found-requires-7 c κs = tt
 
 figure-mark-requires : tie.Need-figure-mark-requires Inv-loop μ-loop
-figure-mark-requires c κs = ready-here (c .before .before .before .before .before .before .before .before .before .before .before .before .before .before) (c .before .before .before .before .before .before .before .before .before .before .before .before .token8 .given .1 ∙ ap (λ (w : Figure). t.Figure w) (c .before .before .before .before .before .before .before .before .before .enum-told9 .given .1)) (joining (c .before .before .before .before .before .before .before .before .before .before .before .before .before .before)) refl (sym (c .before .before .before .before .before .before .before .before .check-mark .ensures) ∙ c .before .before .before .before .before .before .before .if7 .left) .asked
+figure-mark-requires c κs = ready-here (c .before .before .before .before .before .before .before .before .before .before .before .before .before) (c .before .before .before .before .before .before .before .before .before .before .before .token8 .given .1 ∙ ap (λ (w : Figure). t.Figure w) (c .before .before .before .before .before .before .before .before .enum-told9 .given .1)) (joining (c .before .before .before .before .before .before .before .before .before .before .before .before .before)) refl (sym (c .before .before .before .before .before .before .before .check-mark .ensures) ∙ c .before .before .before .before .before .before .if7 .left) .asked
 
 figure-closed-requires : tie.Need-figure-closed-requires Inv-loop μ-loop
-figure-closed-requires c κs = tt
+figure-closed-requires c κs = (first-below (c .before .before .before .before .before .before .before .before .before .before .before .before .before .before .before .before .before .before .before .before .loop .inv .related .stored), figure-here (c .before .before .before .before .before .before .before .before .before .before .before .before .before .before .before))
+
+start-here-requires : tie.Need-start-here-requires Inv-loop μ-loop
+start-here-requires c κs = first-below (c .before .before .before .before .before .before .before .before .before .before .before .before .before .before .before .before .before .before .before .before .before .loop .inv .related .stored)
 
 figure-marked-requires : tie.Need-figure-marked-requires Inv-loop μ-loop
 figure-marked-requires c κs = tt
@@ -869,12 +879,11 @@ loop-again-17 : tie.Need-loop-again-17 Inv-loop μ-loop
 unfolding remarked stepped takenNext notesNext barsNext heldNext
 loop-again-17 c =
     let s = c .before .before .before .before .before .before .before .before .before .before .before .before .before .before .before .before .before .before .before .before .before .before .before .loop .st in
-    let n = c .before .before .before .before .before .before .before .before .before .before .open-length .ensures in
-    let r = c .before .before .before .before .before .before .before .store-found7 in
-    let words = c .before .before .before .before .before .before .before .before .before .mark-found .ensures ∙ (λ i. map diagnosticWords (markFound (s .groups .figure) (n i) (itemIn (c .before .before .before .before .before .before .before .before .before .before .before .before .before .before .before .before .before .before .span-of .ensures i)))) in
+    let r = c .before .before .before .before .before .before .before .before .store-found7 in
+    let words = found-here (c .before .before .before .before .before .before .before .before .before .before .before .before .before .before .before .before .before .before) (markFound (s .groups .figure) (s .counts)) (c .before .before .before .before .before .before .before .before .before .before .mark-found .ensures) in
     go-on (c .before .before .before .before .before .before .before .before .before .before .before .before .before .before .before .before .before .before) (c .before .before .before .before .before .before .before .before .before .before .before .before .before .before .before .before .token8 .given .1 ∙ ap (λ (w : Figure). t.Figure w) (c .before .before .before .before .before .before .before .before .before .before .before .before .before .enum-told9 .given .1)) refl (joining (c .before .before .before .before .before .before .before .before .before .before .before .before .before .before .before .before .before .before)) refl (sym (c .before .before .before .before .before .before .before .before .before .before .before .before .check-mark .ensures) ∙ c .before .before .before .before .before .before .before .before .before .before .before .if7 .left) words (r .ensures .0) (r .ensures .1) refl
-    (λ i. record { attributes = s .attributes; voice = s .voice; counts = s .counts; groups = (c .figure-marked .ensures ∙ ap (λ (k : ℕ). figureMarked k (s .groups)) n) i; figure = (c .before .figure-closed .ensures ∙ ap (λ (k : ℕ). figureClosed (s .groups) k (s .figure)) n) i; diagnostics = r .result })
-    refl refl refl refl (c .before .before .before .figure-mark .ensures) refl (c .before .before .before .figure-mark .kept .1 .1 .1 .0) (r .kept .0)
+    (λ i. record { attributes = s .attributes; voice = s .voice; counts = s .counts; groups = (c .figure-marked .ensures ∙ ap (λ (k : Start). figureMarked k (s .groups)) (c .before .start-here .ensures)) i; figure = c .before .before .figure-closed .ensures i; diagnostics = r .result })
+    refl refl refl refl (c .before .before .before .before .figure-mark .ensures) refl (c .before .before .before .before .figure-mark .kept .1 .1 .1 .0) (r .kept .0)
 
 enum-told-10 : tie.Need-enum-told-10 Inv-loop μ-loop
 enum-told-10 c = search needs
@@ -986,8 +995,8 @@ enum-known-token-9 c = search needs
 enum-told-12 : tie.Need-enum-told-12 Inv-loop μ-loop
 enum-told-12 c = search needs
 
-open-length-requires-2 : tie.Need-open-length-requires-2 Inv-loop μ-loop
-open-length-requires-2 c κs = first-below (c .before .before .before .before .before .before .before .before .before .before .loop .inv .related .stored)
+start-here-requires-2 : tie.Need-start-here-requires-2 Inv-loop μ-loop
+start-here-requires-2 c κs = first-below (c .before .before .before .before .before .before .before .before .before .before .loop .inv .related .stored)
 
 beam-opened-requires : tie.Need-beam-opened-requires Inv-loop μ-loop
 beam-opened-requires c κs = tt
@@ -997,13 +1006,13 @@ loop-less-20 c = omega (arith, further-here (c .before .before .before .before .
 
 loop-again-20 : tie.Need-loop-again-20 Inv-loop μ-loop
 unfolding remarked stepped takenNext notesNext barsNext heldNext
-loop-again-20 c = quiet (c .before .before .before .before .before .before .before) (c .before .before .before .before .before .token9 .given .1 ∙ ap (λ (w : Marking). t.Marking w) (c .before .before .enum-told12 .given .1)) refl refl refl (λ i. withGroups ((c .beam-opened .ensures ∙ ap (λ (n : ℕ). beamSet (startAt n) (c .before .before .before .before .before .before .before .before .before .before .before .before .loop .st .groups)) (c .before .open-length2 .ensures)) i) (c .before .before .before .before .before .before .before .before .before .before .before .before .loop .st)) refl refl refl refl refl refl
+loop-again-20 c = quiet (c .before .before .before .before .before .before .before) (c .before .before .before .before .before .token9 .given .1 ∙ ap (λ (w : Marking). t.Marking w) (c .before .before .enum-told12 .given .1)) refl refl refl (λ i. withGroups ((c .beam-opened .ensures ∙ ap (λ (k : Start). beamSet k (c .before .before .before .before .before .before .before .before .before .before .before .before .loop .st .groups)) (c .before .start-here2 .ensures)) i) (c .before .before .before .before .before .before .before .before .before .before .before .before .loop .st)) refl refl refl refl refl refl
 
 enum-told-13 : tie.Need-enum-told-13 Inv-loop μ-loop
 enum-told-13 c = search needs
 
 close-beam-requires : tie.Need-close-beam-requires Inv-loop μ-loop
-close-beam-requires c κs = ready-here (c .before .before .before .before .before .before) (c .before .before .before .before .token9 .given .1 ∙ ap (λ (w : Marking). t.Marking w) (c .before .enum-told13 .given .1)) (joining (c .before .before .before .before .before .before)) refl refl .within
+close-beam-requires c κs = (ready-here (c .before .before .before .before .before .before) (c .before .before .before .before .token9 .given .1 ∙ ap (λ (w : Marking). t.Marking w) (c .before .enum-told13 .given .1)) (joining (c .before .before .before .before .before .before)) refl refl .within, beam-here (c .before .before .before .before .before .before))
 
 beam-closed-requires : tie.Need-beam-closed-requires Inv-loop μ-loop
 beam-closed-requires c κs = tt
@@ -1018,8 +1027,8 @@ loop-again-21 c = silent (c .before .before .before .before .before .before .bef
 enum-told-14 : tie.Need-enum-told-14 Inv-loop μ-loop
 enum-told-14 c = search needs
 
-open-length-requires-3 : tie.Need-open-length-requires-3 Inv-loop μ-loop
-open-length-requires-3 c κs = first-below (c .before .before .before .before .before .before .before .before .before .before .loop .inv .related .stored)
+start-here-requires-3 : tie.Need-start-here-requires-3 Inv-loop μ-loop
+start-here-requires-3 c κs = first-below (c .before .before .before .before .before .before .before .before .before .before .loop .inv .related .stored)
 
 paren-opened-requires : tie.Need-paren-opened-requires Inv-loop μ-loop
 paren-opened-requires c κs = tt
@@ -1029,7 +1038,7 @@ loop-less-22 c = omega (arith, further-here (c .before .before .before .before .
 
 loop-again-22 : tie.Need-loop-again-22 Inv-loop μ-loop
 unfolding remarked stepped takenNext notesNext barsNext heldNext
-loop-again-22 c = quiet (c .before .before .before .before .before .before .before) (c .before .before .before .before .before .token9 .given .1 ∙ ap (λ (w : Marking). t.Marking w) (c .before .before .enum-told14 .given .1)) refl refl refl (λ i. withGroups ((c .paren-opened .ensures ∙ ap (λ (n : ℕ). parenSet (startAt n) (c .before .before .before .before .before .before .before .before .before .before .before .before .loop .st .groups)) (c .before .open-length3 .ensures)) i) (c .before .before .before .before .before .before .before .before .before .before .before .before .loop .st)) refl refl refl refl refl refl
+loop-again-22 c = quiet (c .before .before .before .before .before .before .before) (c .before .before .before .before .before .token9 .given .1 ∙ ap (λ (w : Marking). t.Marking w) (c .before .before .enum-told14 .given .1)) refl refl refl (λ i. withGroups ((c .paren-opened .ensures ∙ ap (λ (k : Start). parenSet k (c .before .before .before .before .before .before .before .before .before .before .before .before .loop .st .groups)) (c .before .start-here3 .ensures)) i) (c .before .before .before .before .before .before .before .before .before .before .before .before .loop .st)) refl refl refl refl refl refl
 
 enum-told-15 : tie.Need-enum-told-15 Inv-loop μ-loop
 enum-told-15 c = search needs
@@ -1075,10 +1084,10 @@ enum-told-16 : tie.Need-enum-told-16 Inv-loop μ-loop
 enum-told-16 c = search needs
 
 group-timed-requires : tie.Need-group-timed-requires Inv-loop μ-loop
-group-timed-requires c κs = (held-here (c .before .before .before .before .before .before), first-below (c .before .before .before .before .before .before .before .before .before .before .before .loop .inv .related .stored))
+group-timed-requires c κs = (held-here (c .before .before .before .before .before .before), first-below (c .before .before .before .before .before .before .before .before .before .before .before .loop .inv .related .stored), paren-here (c .before .before .before .before .before .before))
 
 check-group-requires : tie.Need-check-group-requires Inv-loop μ-loop
-check-group-requires c κs = (c .before .group-timed .ensures, held-here (c .before .before .before .before .before .before .before .before), first-below (c .before .before .before .before .before .before .before .before .before .before .before .before .before .loop .inv .related .stored))
+check-group-requires c κs = (c .before .group-timed .ensures, held-here (c .before .before .before .before .before .before .before .before), first-below (c .before .before .before .before .before .before .before .before .before .before .before .before .before .loop .inv .related .stored), paren-here (c .before .before .before .before .before .before .before .before))
 
 stopped-requires-9 : tie.Need-stopped-requires-9 Inv-loop μ-loop
 stopped-requires-9 c κs = tt
@@ -1102,13 +1111,13 @@ group-closing-requires : tie.Need-group-closing-requires Inv-loop μ-loop
 group-closing-requires c κs = c .before .before .before .before .before .before .before .before .before .before .before .before .before .before .before .loop .inv .related .groups .count
 
 group-found-requires : tie.Need-group-found-requires Inv-loop μ-loop
-group-found-requires c κs = (fits-here (c .before .before .before .before .before .before .before .before .before .before .before), first-below (c .before .before .before .before .before .before .before .before .before .before .before .before .before .before .before .before .loop .inv .related .stored))
+group-found-requires c κs = fits-here (c .before .before .before .before .before .before .before .before .before .before .before)
 
 store-found-requires-11 : tie.Need-store-found-requires-11 Inv-loop μ-loop
 store-found-requires-11 c κs = tt
 
 close-paren-requires : tie.Need-close-paren-requires Inv-loop μ-loop
-close-paren-requires c κs = (ready-here (c .before .before .before .before .before .before .before .before .before .before .before .before .before .before .before .before) (c .before .before .before .before .before .before .before .before .before .before .before .before .before .before .token9 .given .1 ∙ ap (λ (w : Marking). t.Marking w) (c .before .before .before .before .before .before .before .before .before .before .before .enum-told16 .given .1)) (joining (c .before .before .before .before .before .before .before .before .before .before .before .before .before .before .before .before)) refl (sym (c .before .before .before .before .before .before .before .check-group .ensures) ∙ c .before .before .before .before .before .before .if10 .left) .asked, λ n. c .before .before .before .before .before .group-closing .ensures ∙ ap (λ (k : Timed). closing (k .count) (countIn (c .before .before .before .before .before .before .before .before .before .before .before .before .before .before .before .before .before .before .before .before .before .loop .st .groups .count))) (c .before .before .before .before .before .before .before .before .before .group-timed .ensures) ∙ closing-noted (c .before .before .before .before .before .before .before .before .before .before .before .before .before .before .before .before .before .before .before .before .before .loop .st .groups) (c .before .before .before .before .before .before .before .before .before .before .before .before .before .before .before .before .before .before .before .before .before .loop .st .counts) (c .before .before .before .before .before .before .before .before .before .before .before .before .before .before .before .before .before .before .before .before .before .loop .notes) n)
+close-paren-requires c κs = (ready-here (c .before .before .before .before .before .before .before .before .before .before .before .before .before .before .before .before) (c .before .before .before .before .before .before .before .before .before .before .before .before .before .before .token9 .given .1 ∙ ap (λ (w : Marking). t.Marking w) (c .before .before .before .before .before .before .before .before .before .before .before .enum-told16 .given .1)) (joining (c .before .before .before .before .before .before .before .before .before .before .before .before .before .before .before .before)) refl (sym (c .before .before .before .before .before .before .before .check-group .ensures) ∙ c .before .before .before .before .before .before .if10 .left) .asked, c .before .before .before .before .before .group-closing .ensures ∙ ap (λ (k : Timed). closing (k .count) (countIn (c .before .before .before .before .before .before .before .before .before .before .before .before .before .before .before .before .before .before .before .before .before .loop .st .groups .count))) (c .before .before .before .before .before .before .before .before .before .group-timed .ensures))
 
 paren-closed-requires : tie.Need-paren-closed-requires Inv-loop μ-loop
 paren-closed-requires c κs = tt
@@ -1121,7 +1130,9 @@ unfolding remarked stepped takenNext notesNext barsNext heldNext
 loop-again-24 c =
     let s = c .before .before .before .before .before .before .before .before .before .before .before .before .before .before .before .before .before .before .before .before .before .before .before .before .loop .st in
     let r = c .before .before .before .before .before .store-found11 in
-    let words = found-here (c .before .before .before .before .before .before .before .before .before .before .before .before .before .before .before .before .before .before .before) (groupFound (s .groups) (s .counts) (closingOf (c .before .before .before .before .before .before .before .before .group-closing .result))) (c .before .before .before .before .before .before .before .group-found .ensures) ∙ ap (map diagnosticWords) (found-noted (s .groups) (s .counts) (itemIn (spanOf (placeAt (c .before .before .before .before .before .before .before .before .before .before .before .before .before .before .before .before .before .before .before .before .before .before .before .before .loop .at) (c .before .before .before .before .before .before .before .before .before .before .before .before .before .before .before .before .before .before .before .before .before .before .before .before .loop .tails)) (c .before .before .before .before .before .before .before .before .before .before .before .before .before .before .before .before .before .before .before .before .before .before .before .before .loop .at) (c .before .before .before .before .before .before .before .before .before .before .before .before .before .before .before .before .before .before .before .before .before .before .token-end .result) (c .before .before .before .before .before .before .before .before .before .before .before .before .before .before .before .before .before .before .before .before .before .before .before .before .before .before .before .before .before .before .before .args .start))) (λ n. c .before .before .before .before .before .before .before .before .group-closing .ensures ∙ ap (λ (k : Timed). closing (k .count) (countIn (c .before .before .before .before .before .before .before .before .before .before .before .before .before .before .before .before .before .before .before .before .before .before .before .before .loop .st .groups .count))) (c .before .before .before .before .before .before .before .before .before .before .before .before .group-timed .ensures) ∙ closing-noted (c .before .before .before .before .before .before .before .before .before .before .before .before .before .before .before .before .before .before .before .before .before .before .before .before .loop .st .groups) (c .before .before .before .before .before .before .before .before .before .before .before .before .before .before .before .before .before .before .before .before .before .before .before .before .loop .st .counts) (c .before .before .before .before .before .before .before .before .before .before .before .before .before .before .before .before .before .before .before .before .before .before .before .before .loop .notes) n)) in
+    let closes = c .before .before .before .before .before .before .before .before .group-closing .ensures ∙ ap (λ (k : Timed). closing (k .count) (countIn (c .before .before .before .before .before .before .before .before .before .before .before .before .before .before .before .before .before .before .before .before .before .before .before .before .loop .st .groups .count))) (c .before .before .before .before .before .before .before .before .before .before .before .before .group-timed .ensures) in
+    let words = found-here (c .before .before .before .before .before .before .before .before .before .before .before .before .before .before .before .before .before .before .before) (groupFound (s .groups) (s .counts) (closingOf (c .before .before .before .before .before .before .before .before .group-closing .result))) (c .before .before .before .before .before .before .before .group-found .ensures)
+    ∙ ap (λ (k : Closing). map diagnosticWords (groupFound (s .groups) (s .counts) k (itemIn (spanOf (placeAt (c .before .before .before .before .before .before .before .before .before .before .before .before .before .before .before .before .before .before .before .before .before .before .before .before .loop .at) (c .before .before .before .before .before .before .before .before .before .before .before .before .before .before .before .before .before .before .before .before .before .before .before .before .loop .tails)) (c .before .before .before .before .before .before .before .before .before .before .before .before .before .before .before .before .before .before .before .before .before .before .before .before .loop .at) (c .before .before .before .before .before .before .before .before .before .before .before .before .before .before .before .before .before .before .before .before .before .before .token-end .result) (c .before .before .before .before .before .before .before .before .before .before .before .before .before .before .before .before .before .before .before .before .before .before .before .before .before .before .before .before .before .before .before .args .start))))) closes in
     go-on (c .before .before .before .before .before .before .before .before .before .before .before .before .before .before .before .before .before .before .before) (c .before .before .before .before .before .before .before .before .before .before .before .before .before .before .before .before .before .token9 .given .1 ∙ ap (λ (w : Marking). t.Marking w) (c .before .before .before .before .before .before .before .before .before .before .before .before .before .before .enum-told16 .given .1)) refl (joining (c .before .before .before .before .before .before .before .before .before .before .before .before .before .before .before .before .before .before .before)) refl (sym (c .before .before .before .before .before .before .before .before .before .before .check-group .ensures) ∙ c .before .before .before .before .before .before .before .before .before .if10 .left) words (r .ensures .0) (r .ensures .1) refl
     (λ i. withDiagnostics (r .result) (withGroups (c .paren-closed .ensures i) s)) refl refl (c .before .before .close-paren .ensures) refl refl refl refl (r .kept .0)
 
@@ -1468,11 +1479,11 @@ read-data-spec =
     same-length-23
     same-length-24
     returns-6
-    open-length-requires
     mark-found-requires
     store-found-requires-7
     figure-mark-requires
     figure-closed-requires
+    start-here-requires
     figure-marked-requires
     loop-less-17
     loop-again-17
@@ -1508,7 +1519,7 @@ read-data-spec =
     loop-again-19
     enum-known-token-9
     enum-told-12
-    open-length-requires-2
+    start-here-requires-2
     beam-opened-requires
     loop-less-20
     loop-again-20
@@ -1518,7 +1529,7 @@ read-data-spec =
     loop-less-21
     loop-again-21
     enum-told-14
-    open-length-requires-3
+    start-here-requires-3
     paren-opened-requires
     loop-less-22
     loop-again-22

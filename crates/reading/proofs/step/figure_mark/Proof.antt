@@ -1,32 +1,40 @@
 use native.Mathlib.Omega.{arith}
-use mathlib.Core.Bool.{true}
-use mathlib.Core.Path.{_≡_}
-use borrow.Author.Tests.{not-true, not-false, le-leb, lt-leb}
+use mathlib.Core.Path.{sym, _∙_}
+use borrow.Author.Tests.{not-true, not-false}
+use Rattle.steps.proofs.StartLaws.{reached-count}
 use borrow.Author.Needs.{needs}
-use Rattle.reading.specs.Cells.{reaches}
 use Rattle.reading.proofs.step.figure_mark.Statement.{statement}
 use Rattle.reading.proofs.step.figure_mark.Tie as tie
 
-reached : (c : tie.Else2) → reaches (c .before .before .before .before .before .before .args .groups .figure) (c .before .before .before .before .before .before .args .counts) ≡ true
-reached c = rw (not-false (c .before .before .before .before .before .before .args .groups .figure .noted) (c .before .before .if1 .left), ← c .before .before .before .before .before .open-length .ensures, le-leb _ _ (c .if2 .left))
+reaches-requires : tie.Need-reaches-requires
+reaches-requires c κs = search needs
+
+returns : tie.Need-returns
+returns c = rw (sym (c .before .reaches .ensures) ∙ not-true _ (c .if1 .taken))
+
+add-take-figure : tie.Need-add-take-figure
+add-take-figure c = let s = c .before .before .before .before .before .before in record { fits = omega (arith, s .pre .reached (sym (c .before .before .before .before .reaches .ensures) ∙ not-false _ (c .before .before .before .if1 .left)), s .pre .within .first) }
+
+count-from-requires : tie.Need-count-from-requires
+count-from-requires c κs = (c .before .before .before .before .before .before .pre .within .first, c .before .before .before .before .before .before .pre .reached)
 
 take-figure-requires : tie.Need-take-figure-requires
-take-figure-requires c κs =
-    let s = c .before .before .before .before .before .before .before .before .before .before in
-    let e = c .before .before .before .before .before .before .before .before .before .open-length .ensures in
-    let h = c .before .before .before .before .if2 .left in
-    let first = s .pre .within .first in
-    let notes = s .pre .within .notes in
-    (rw e (s .pre .room (reached (c .before .before .before .before))), omega arith)
+take-figure-requires c κs = let s = c .before .before .before .before .before .before .before in let e = sym (c .before .before .before .before .before .reaches .ensures) ∙ not-false _ (c .before .before .before .before .if1 .left) in let n = c .count-from .ensures in (rw n (s .pre .room), omega (arith, n, reached-count (s .args .groups .figure) (s .args .counts) e, s .pre .reached e, s .pre .within .first, s .pre .within .notes))
+
+same-length : tie.Need-same-length
+same-length c = search needs
+
+returns-2 : tie.Need-returns-2
+returns-2 c = rw (c .before .take-figure .ensures, c .before .before .count-from .ensures, sym (c .before .before .before .before .before .before .before .reaches .ensures) ∙ not-false _ (c .before .before .before .before .before .before .if1 .left))
 
 pub figure-mark-spec : {M : Type 1} → statement M
 figure-mark-spec =
     tie.close
     (tie.spec
-    (λ c κs. search needs)
-    (λ c. rw (not-true (c .before .before .before .before .args .groups .figure .noted) (c .if1 .taken)))
-    (λ c. rw (not-false (c .before .before .before .before .before .before .args .groups .figure .noted) (c .before .before .if1 .left), ← c .before .before .before .before .before .open-length .ensures, lt-leb _ _ (c .if2 .taken)))
-    (λ c. search needs)
+    reaches-requires
+    returns
+    add-take-figure
+    count-from-requires
     take-figure-requires
-    (λ c. search needs)
-    (λ c. rw (c .before .take-figure .ensures, reached (c .before .before .before .before .before .before), c .before .before .before .before .before .before .before .before .before .before .before .open-length .ensures)))
+    same-length
+    returns-2)

@@ -8,11 +8,8 @@ no-start-requires c κs = search needs
 returns : tie.Need-returns
 returns c = rw (c .before .if1 .taken, c .no-start .ensures)
 
-start-at-requires : tie.Need-start-at-requires
-start-at-requires c κs = search needs
-
 returns-2 : tie.Need-returns-2
-returns-2 c = rw (c .before .if1 .left, c .start-at .ensures)
+returns-2 c = rw (c .if1 .left)
 
 pub figure-marked-spec : {M : Type 1} → statement M
-figure-marked-spec = tie.close (tie.spec no-start-requires returns start-at-requires returns-2)
+figure-marked-spec = tie.close (tie.spec no-start-requires returns returns-2)
