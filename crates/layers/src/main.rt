@@ -17,6 +17,7 @@ mod why; // why.rt: why each letter sounds as it does
 ghost use Prim.Native.Nat.{_<_, _≤_};
 ghost use lib.ListN.{length};
 use bars::show_bars;
+use ending::Reading;
 use fields::Fields;
 use fields::fields_of;
 use libc::STDIN_FILENO;
@@ -31,7 +32,6 @@ use marks::show_marks;
 use messages::show_refusal;
 use notes::show_notes;
 use opened::enter_opened;
-use reading::read::Reading;
 use reading::read::read;
 use records::cells::DIAGNOSTIC;
 use records::cells::clear;

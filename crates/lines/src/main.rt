@@ -1,9 +1,9 @@
 // Reads each line of standard input and prints its records, a row each; of a refused line the number and the place.
 // Its standard input is document 01's lines to prove, the last as document 02 (R-2) reads it.
+use ending::Reading;
 use libc::STDIN_FILENO;
 use libc::STDOUT_FILENO;
 use limits::Pae;
-use reading::read::Reading;
 use reading::read::read;
 use records::cells::BAR;
 use records::cells::DIAGNOSTIC;

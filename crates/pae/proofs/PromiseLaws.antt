@@ -22,7 +22,7 @@ use Rattle.rules.specs.Words.{zeros, padded, cells, diagnosticWords, storedDiag
 use Rattle.records.specs.Diagnostics.{heldCells}
 use Rattle.records.proofs.CellLaws.{length-cells}
 use Rattle.records.proofs.DiagnosticLaws.{length-diagnostic, held-all}
-use Rattle.reading.specs.declared.read.Reading.{Reading}
+use Rattle.ending.specs.declared.Reading.{Reading}
 use Rattle.reading.specs.Answer.{Promised}
 use Rattle.reading.proofs.ReadingLaws.{few-first}
 use Rattle.pae.specs.declared.Diagnostic.{Diagnostic}

@@ -54,10 +54,10 @@ use denote.Exit.{yes}
 use denote.Signature.{plain, shrSliceOf}
 use Rattle.rules.specs.Limits.{diagnosticLimit, diagnosticSize}
 use Rattle.rules.specs.Words.{zeros}
-use Rattle.reading.specs.declared.read.Reading.{Reading}
+use Rattle.ending.specs.declared.Reading.{Reading}
+use Rattle.ending.proofs.Reading as An
+use Rattle.ending.proofs.Reading.Laws as An′
 use Rattle.reading.specs.Answer.{lentWords, Promised}
-use Rattle.reading.proofs.read.Reading as An
-use Rattle.reading.proofs.read.Reading.Laws as An′
 use Rattle.reading.proofs.read.read as core
 use Rattle.reading.proofs.read.read.Symbol.{name as #reading·read·read}
 use Rattle.pae.specs.declared.Diagnostic.{Diagnostic}

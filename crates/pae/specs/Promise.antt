@@ -5,7 +5,7 @@ use mathlib.Core.List.{List}
 use lib.IntN.{ℤ}
 use Rattle.rules.specs.Reading.{Lent, reading}
 use Rattle.rules.specs.Agreement.{Demand3}
-use Rattle.reading.specs.declared.read.Reading.{Reading}
+use Rattle.ending.specs.declared.Reading.{Reading}
 use Rattle.pae.specs.declared.Diagnostic.{Diagnostic}
 use Rattle.pae.specs.List.{words}
 

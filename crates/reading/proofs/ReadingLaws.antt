@@ -38,15 +38,16 @@ use Rattle.checks.proofs.StoredLaws.{stored-count}
 use Rattle.checks.proofs.TestLaws.{bar-passes}
 use Rattle.checks.proofs.CheckLaws.{bars-agree, bars-ready}
 use Rattle.diagnose.proofs.FoundLaws.{all-stored}
+use Rattle.ending.specs.declared.Reading as code
+use Rattle.ending.specs.Ending.{roomIn, refusedWith, finishedWith}
 use Rattle.entry.specs.Entry.{entryCheck}
 use Rattle.entry.proofs.EntryLaws.{text-refused, no-data, text-passes, data-read, refused-whole, data-left}
 use Rattle.fields.specs.declared.Fields.{Fields}
 use Rattle.fields.specs.Taken.{Taken}
-use Rattle.reading.specs.declared.read.Reading as code
 use Rattle.reading.specs.declared.data.Outcome.{Outcome}
 use Rattle.reading.specs.Data.{attributesIn, Finished, DataRead}
 use Rattle.reading.specs.Data as walk
-use Rattle.reading.specs.Answer.{roomIn, Answered, Promised, refusedWith, finishedWith}
+use Rattle.reading.specs.Answer.{Answered, Promised}
 
 -- ---- cleared cells
 
@@ -140,21 +141,6 @@ end-passes c lent size {k} is z = go (hasContent c && leb lent (c .bars)) (eqb (
     go true empty e z = absurd (omega (arith, z))
     go false true e z = absurd (omega (arith, z))
     go false false e z = (refl, eqb-false (c .notes) 0 e)
-
--- the counts after the end
-pub counted-notes : (c : Counts) → barCounted c .notes ≡ c .notes
-counted-notes c = go (hasContent c)
-  where
-    go : (b : Bool) → cond b (record { notes = c .notes; first = c .notes; last = c .first; bars = c .bars + 1 }) c .notes ≡ c .notes
-    go true = refl
-    go false = refl
-
-pub counted-bars : (c : Counts) → barCounted c .bars ≤ c .bars + 1
-counted-bars c = go (hasContent c)
-  where
-    go : (b : Bool) → cond b (record { notes = c .notes; first = c .notes; last = c .first; bars = c .bars + 1 }) c .bars ≤ c .bars + 1
-    go true = omega arith
-    go false = omega arith
 
 -- at most 1,024 diagnostics are stored
 pub few-first : (ds : List Diagnostic) → length (storedDiagnostics ds) ≤ diagnosticLimit

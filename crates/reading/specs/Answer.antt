@@ -1,11 +1,11 @@
 -- The answer of a reading over lent words. Assumes nothing.
-use Prim.Native.Nat.{ℕ, _/_, _≤_}
+use Prim.Native.Nat.{ℕ, _≤_}
 use mathlib.Core.Path.{_≡_}
 use mathlib.Core.Bool.{true}
 use mathlib.Core.List.{List}
 use lib.IntN.{ℤ}
 use lib.ListN.{length}
-use Rattle.rules.specs.Limits.{textLimit, noteSize, barSize}
+use Rattle.rules.specs.Limits.{textLimit}
 use Rattle.rules.specs.Records.{given}
 use Rattle.rules.specs.Fields.{fieldsOf, fieldsDiagnosed}
 use Rattle.rules.specs.Refusals.{refusalOf}
@@ -13,22 +13,15 @@ use Rattle.rules.specs.Agreement.{Demand3}
 use Rattle.rules.specs.Reading.{Lent, lentRecords, diagnosticsOf, reading}
 use Rattle.rules.specs.Words.{zeros}
 use Rattle.records.specs.Diagnostics.{heldCells}
-use Rattle.limits.specs.declared.Pae.{Pae}
-use Rattle.steps.specs.State.{barCounted}
 use Rattle.steps.specs.Relation.{Diagnosed}
-use Rattle.checks.specs.declared.Room.{Room}
+use Rattle.ending.specs.declared.Reading.{Reading}
 use Rattle.entry.specs.Entry.{entryCheck}
 use Rattle.fields.specs.declared.Fields.{Fields}
 use Rattle.fields.specs.Taken.{Taken}
-use Rattle.reading.specs.declared.read.Reading.{Reading}
 
 -- how much is lent: words of notes, bars and figure, and diagnostic cells
 abbrev pub lentWords : List ℤ → List ℤ → List ℤ → ℕ → Lent
 lentWords notes bars figure cells = record { notes = length notes; bars = length bars; figure = length figure; diagnostics = cells }
-
--- only whole records count as lent
-abbrev pub roomIn : ℕ → ℕ → ℕ → Room
-roomIn notes bars figure = record { notes = notes / noteSize; bars = bars / barSize; figure = figure / noteSize }
 
 -- the words of the diagnostics that find room, all 0 after a refusal
 abbrev pub scratchCells : List ℕ → Lent → ℕ → List ℤ
@@ -50,14 +43,6 @@ pub record Answered (text : List ℕ) (lent : Lent) (size : ℕ) (r : Reading) (
 pub record Promised (text : List ℕ) (lent : Lent) (size : ℕ) (r : Reading) (notes bars figure scratch : List ℤ) : Type 0 where
   pub answered : Answered text lent size r notes bars figure scratch
   pub demand3 : r .number ≡ 0 → Demand3 text (r .notes) notes
-
--- a refusal's numbers: counts are 0
-abbrev pub refusedWith : ℕ → ℕ → Reading
-refusedWith number place = record { number = number; place = place; notes = 0; bars = 0; diagnostics = 0 }
-
--- the numbers of a finished reading, the open bar closed
-abbrev pub finishedWith : Pae → Reading
-finishedWith st = record { number = 0; place = 0; notes = barCounted (st .counts) .notes; bars = barCounted (st .counts) .bars; diagnostics = st .diagnostics }
 
 -- the fields of a text that has data, in cleared cells
 pub record Fielded (text : List ℕ) (fields : Fields) (noteCells barCells scratch : List ℤ) : Type 0 where

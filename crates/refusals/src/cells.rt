@@ -1,6 +1,6 @@
 // What is lent, before and after a call.
 use super::table::lent_number;
-use reading::read::Reading;
+use ending::Reading;
 use records::cells::BAR;
 use records::cells::NOTE;
 use show::word_at;

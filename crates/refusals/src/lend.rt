@@ -1,9 +1,9 @@
 // The call of `pae_read`, with a list of diagnostics that holds rubbish before it.
 ghost use Prim.Native.Nat.{_≤_};
 use super::cells::RUBBISH;
+use ending::Reading;
 use pae::Diagnostic;
 use pae::pae_read;
-use reading::read::Reading;
 
 // The list has so many cells, of which the first are lent.
 pub(crate) const CELLS: usize = 2000;

@@ -1,8 +1,8 @@
 // Rows of the output: the case as the table has it, and what came.
 use super::table::is_expected;
 use super::table::text_end;
+use ending::Reading;
 use libc::STDOUT_FILENO;
-use reading::read::Reading;
 
 fn print(bytes: &[u8]) {
     io::write_all(STDOUT_FILENO, bytes);

@@ -1,7 +1,7 @@
 // The lines of the table: a name, what is lent, a text, and what document 01 says of it.
 ghost use Prim.Native.Nat.{_≤_};
 ghost use lib.ListN.{length};
-use reading::read::Reading;
+use ending::Reading;
 use show::byte_at;
 
 // ---- the parts of a line

@@ -3,12 +3,12 @@
 ghost use mathlib.Core.Path.{_≡_};
 ghost use Prim.Native.Nat.{_≤_};
 ghost use lib.ListN.{length};
+use ending::Reading;
 use libc::STDIN_FILENO;
 use libc::STDOUT_FILENO;
 use limits::Pae;
 use pae::pae_read_card;
 use pae::pae_write_card;
-use reading::read::Reading;
 use reading::read::read;
 use records::cells::BAR;
 use records::cells::DIAGNOSTIC;

@@ -37,10 +37,10 @@ use denote.Triple.Clauses.{ensured, lasts}
 use denote.Triple.Table.{entered, cited}
 use Rattle.rules.specs.Limits.{diagnosticSize}
 use Rattle.rules.specs.Reading.{Lent}
-use Rattle.reading.specs.declared.read.Reading.{Reading}
+use Rattle.ending.specs.declared.Reading.{Reading}
+use Rattle.ending.proofs.Reading as An
+use Rattle.ending.proofs.Reading.Laws as An′
 use Rattle.reading.specs.Answer.{lentWords, Promised}
-use Rattle.reading.proofs.read.Reading as An
-use Rattle.reading.proofs.read.Reading.Laws as An′
 use Rattle.reading.proofs.read.read.Symbol as core-def
 use Rattle.reading.proofs.read.read.Symbol.{name as #reading·read·read}
 use Rattle.reading.proofs.read.read.Met as core-thm

@@ -28,8 +28,8 @@ use denote.Triple.Spec.{Meets, tripleOf}
 use denote.Triple.Statement.{Triple}
 use denote.Triple.Table.{entered, cited}
 use Rattle.rules.specs.Limits.{diagnosticLimit, diagnosticSize}
-use Rattle.reading.proofs.read.Reading as An
-use Rattle.reading.proofs.read.Reading.Laws as An′
+use Rattle.ending.proofs.Reading as An
+use Rattle.ending.proofs.Reading.Laws as An′
 use Rattle.reading.proofs.read.read.Symbol as core-def
 use Rattle.reading.proofs.read.read.Symbol.{name as #reading·read·read}
 use Rattle.reading.proofs.read.read.Met as core-thm

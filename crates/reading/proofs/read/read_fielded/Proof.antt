@@ -12,8 +12,9 @@ use Rattle.rules.specs.Words.{zeros}
 use Rattle.checks.specs.declared.Room.{Room}
 use Rattle.checks.specs.Checks.{barCheck, endCheck}
 use Rattle.checks.proofs.CheckLaws.{bars-ready}
+use Rattle.ending.specs.Ending.{roomIn}
 use Rattle.reading.specs.Data.{DataRead}
-use Rattle.reading.specs.Answer.{lentWords, roomIn}
+use Rattle.reading.specs.Answer.{lentWords}
 use Rattle.reading.proofs.ReadingLaws.{refused-by, answer-by, few-diagnosed, part-within, attributes-begin, token-refused, end-refused, end-passes, answer-accepted}
 use Rattle.reading.proofs.read.read_fielded.Statement.{statement}
 use Rattle.reading.proofs.read.read_fielded.Tie as tie

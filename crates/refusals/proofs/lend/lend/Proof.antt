@@ -47,9 +47,9 @@ use denote.Triple.Table.{entered, cited}
 use denote.Triple.Walked.{needs, Stays, stay-dropped, gave-slice, walkOf, goes-dropped, goes-gave-slice, ends-at, walked, walk-meets}
 use denote.Exit.{yes}
 use denote.Signature.{plain, shrSliceOf}
-use Rattle.reading.specs.declared.read.Reading.{Reading}
-use Rattle.reading.proofs.read.Reading as An
-use Rattle.reading.proofs.read.Reading.Laws as An′
+use Rattle.ending.specs.declared.Reading.{Reading}
+use Rattle.ending.proofs.Reading as An
+use Rattle.ending.proofs.Reading.Laws as An′
 use Rattle.pae.specs.declared.Diagnostic.{Diagnostic}
 use Rattle.pae.proofs.Diagnostic as D
 use Rattle.pae.proofs.Diagnostic.Laws as D′
