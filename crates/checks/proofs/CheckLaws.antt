@@ -29,7 +29,7 @@ use Rattle.decode.specs.declared.Marking.the-variants as m
 use Rattle.decode.specs.declared.Token.{Token}
 use Rattle.decode.specs.declared.Token.the-variants as t
 use Rattle.decode.specs.Decode.{figureIn, markingIn, tokenIn}
-use Rattle.steps.specs.State.{hasContent, openLength, repeatedCount, Reached, cellsFrom, countFrom}
+use Rattle.steps.specs.State.{hasContent, openLength, repeatedCount, isNoted, Reached, cellsFrom, countFrom}
 use Rattle.steps.specs.Notes.{lastField}
 use Rattle.steps.specs.Relation.{numberIn, startOf, countIn, Grouped, Stored}
 use Rattle.steps.proofs.CountLaws.{content, repeated-count}
@@ -88,7 +88,7 @@ module _ {size : ℕ} (st : Pae) {s : State} {l : List ℤ} {joined : Bool} (roo
       go false e = storing-agrees 1 1 (room .notes) refl
 
   mark-agrees : tokenRefusal (lentIn room diagnostics) (token.figure token.figureMark) s ≡ numberIn (figureCheck f.Mark st room)
-  mark-agrees = rw (grouped .figure) (go (start .noted) refl)
+  mark-agrees = rw (grouped .figure) (go (isNoted start) refl)
     where
       start : Start
       start = st .groups .figure
@@ -96,12 +96,12 @@ module _ {size : ℕ} (st : Pae) {s : State} {l : List ℤ} {joined : Bool} (roo
       Agrees : Option rules.Start → ℕ → Type 0
       Agrees x n = cond (given x false (λ from. ltb (room .figure) (rules.countFrom from s))) (some 11) none ≡ numberIn (failing (ltb (room .figure) n) 11)
 
-      go : (b : Bool) → start .noted ≡ b → Agrees (cond b (some (startOf start)) none) (countFrom start (st .counts))
+      go : (b : Bool) → isNoted start ≡ b → Agrees (cond b (some (startOf start)) none) (countFrom start (st .counts))
       go true e = subst (Agrees (some (startOf start))) (sym (count-agrees s held start e)) (number-one 11 refl (ltb (room .figure) (rules.countFrom (startOf start) s)))
       go false e = rw (e, le-ltb (room .figure) 0 (omega arith))
 
   group-agrees : Reached (st .groups .paren) (st .counts) → tokenRefusal (lentIn room diagnostics) (token.marking token.groupClose) s ≡ numberIn (groupCheck (st .groups) (st .counts) l)
-  group-agrees reached = rw (grouped .paren) (go (start .noted) refl)
+  group-agrees reached = rw (grouped .paren) (go (isNoted start) refl)
     where
       start : Start
       start = st .groups .paren
@@ -123,7 +123,7 @@ module _ {size : ℕ} (st : Pae) {s : State} {l : List ℤ} {joined : Bool} (roo
       open-agrees : InLength (startOf start) s → Agrees (some open′) (rules.countFrom (startOf start) s)
       open-agrees h = rw (closing-read s held open′ h, one h (isFermata (rules.closingOf open′ s)) refl) (number-one 10 refl (isFermata (rules.closingOf open′ s) && full h))
 
-      go : (b : Bool) → start .noted ≡ b → Agrees (cond b (some open′) none) (countFrom start (st .counts))
+      go : (b : Bool) → isNoted start ≡ b → Agrees (cond b (some open′) none) (countFrom start (st .counts))
       go true e = subst (Agrees (some open′)) (sym (count-agrees s held start e)) (open-agrees (in-length s held start e reached))
       go false e = rw (e, timed-none)
 
@@ -236,7 +236,7 @@ module _ (st : Pae) (joined : Bool) (l : List ℤ) (room : Room) where
   pub fermata-ready : {size : ℕ} (s : State) → Stored size (s .openBar) (s .bars) (st .counts) l → Reached (st .groups .paren) (st .counts)
       → let part = cellsFrom (st .groups .paren) (st .counts) l in let count = countFrom (st .groups .paren) (st .counts) in
       closing (timedCount part count) (countIn (st .groups .count)) ≡ rules.fermata → Passes (t.Marking m.GroupClose) → HasRoom (fermataRecord part count)
-  fermata-ready s held reached = go (start .noted) refl
+  fermata-ready s held reached = go (isNoted start) refl
     where
       start : Start
       start = st .groups .paren
@@ -259,6 +259,6 @@ module _ (st : Pae) (joined : Bool) (l : List ℤ) (room : Room) where
       none-closes : rules.nothing ≡ rules.fermata → ⊥
       none-closes e = let z : _≡_ {A = ℕ} 0 1 = cc in omega arith
 
-      go : (b : Bool) → start .noted ≡ b → Ready (countFrom start (st .counts))
+      go : (b : Bool) → isNoted start ≡ b → Ready (countFrom start (st .counts))
       go true e = subst Ready (sym (count-agrees s held start e)) (open-ready (in-length s held start e reached))
       go false e = subst Ready (sym (ap (λ (t : Bool). cond t (openLength (st .counts) - start .from) 0) (unnoted start (st .counts) e))) (λ closes f. absurd (none-closes (rw timed-none at closes)))

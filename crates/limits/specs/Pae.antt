@@ -7,7 +7,7 @@ use Rattle.limits.specs.declared.Pae.{Pae}
 
 -- nothing is noted
 abbrev pub noStart : Start
-noStart = record { noted = false; bar = 0; from = 0 }
+noStart = record { bar = 0; from = 0 }
 
 -- a fresh reading starts in octave 4, key 0; 3 means that no accidental waits, 256 that a group has no count
 abbrev pub freshPae : Pae

@@ -37,9 +37,8 @@ pub struct Counts {
     pub bars: usize,
 }
 
-// Where a group, beam or figure starts: its bar, by the number of stored bars, and the open bar's length; or none.
+// Where a group, beam or figure starts: the number of its bar, from 1, 0 where there is none; and the open bar's length.
 pub struct Start {
-    pub noted: bool,
     pub bar: usize,
     pub from: usize,
 }
@@ -98,11 +97,7 @@ impl Pae {
     pub fn new() -> Pae
         ensures { λ r. ⌜ r ≡ freshPae ⌝ }
     {
-        let none = Start {
-            noted: false,
-            bar: 0,
-            from: 0,
-        };
+        let none = Start { bar: 0, from: 0 };
         Pae {
             attributes: Attributes {
                 clef: 0,

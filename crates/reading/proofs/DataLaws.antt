@@ -26,6 +26,7 @@ use Rattle.decode.specs.declared.Marking.the-variants as m
 use Rattle.decode.specs.declared.Token.{Token}
 use Rattle.decode.specs.declared.Token.the-variants as t
 use Rattle.decode.specs.Decode.{tokenIn, Decoded}
+use Rattle.steps.specs.State.{isNoted}
 use Rattle.steps.specs.Accidentals.{Table, cleared}
 use Rattle.steps.specs.Notes.{joinsOf}
 use Rattle.steps.specs.Relation.{Attributed, Stored, Barred}
@@ -106,7 +107,7 @@ module _ (data′ : List ℕ) (start : ℕ) (n : ℕ) (scratch₀ : List ℤ) (r
       }
 
       -- what an open group closes to, where the token is a `)`
-      closes : token ≡ t.Marking m.GroupClose → st .groups .paren .noted ≡ true → closingFor token st notes ≡ rules.closingOf (openGroup (st .groups)) (stateAfter (attributesIn a) (w .before))
+      closes : token ≡ t.Marking m.GroupClose → isNoted (st .groups .paren) ≡ true → closingFor token st notes ≡ rules.closingOf (openGroup (st .groups)) (stateAfter (attributesIn a) (w .before))
       closes e noted = ap (λ (x : Token). closingFor x st notes) e ∙ closing-open (stateAfter (attributesIn a) (w .before)) (w .related .stored) (st .groups) noted (paren-reached data′ start (attributesIn a) n scratch₀ size barsSize figureSize room 0 w)
 
       -- what its arm makes of what the walk holds

@@ -34,7 +34,7 @@ use Rattle.decode.specs.declared.Marking.the-variants as m
 use Rattle.decode.specs.declared.Token.{Token}
 use Rattle.decode.specs.declared.Token.the-variants as t
 use Rattle.decode.specs.Decode.{tokenIn, Fine, Decoded}
-use Rattle.steps.specs.State.{hasContent, openLength, repeatedCount, reaches, Reached, counted, withCounts}
+use Rattle.steps.specs.State.{hasContent, openLength, repeatedCount, isNoted, reaches, Reached, counted, withCounts}
 use Rattle.steps.specs.Accidentals.{Table, cleared}
 use Rattle.steps.specs.Notes.{endsOf, joinsOf, wholeBarCells}
 use Rattle.steps.specs.Steps.{countsNext, figureNext, stepped}
@@ -392,7 +392,7 @@ module _ (data′ : List ℕ) (start : ℕ) (k : rules.Attributes) (count₀ : �
           pub step-ready : Ready token st joined notes bars held
           step-ready = record { within = within-here; asked = asked token (decoded .1) passes }
 
-        module _ (closing : rules.Closing) (closes : token ≡ t.Marking m.GroupClose → st .groups .paren .noted ≡ true → closing ≡ rules.closingOf (openGroup (st .groups)) s) where
+        module _ (closing : rules.Closing) (closes : token ≡ t.Marking m.GroupClose → isNoted (st .groups .paren) ≡ true → closing ≡ rules.closingOf (openGroup (st .groups)) s) where
           -- the words of what the token diagnoses
           abbrev pub found : List (List ℤ)
           found = map diagnosticWords (tokenFound token (valueFrom data′ at end) st (endsOf (st .counts) notes) closing (itemFrom data′ start here at end token))

@@ -1,5 +1,6 @@
 -- One token: the state, the table and the lent cells that stood to the rules' state before it stand to it after it. Assumes nothing.
-use Prim.Native.Nat.{ℕ, _+_, _*_, _<_, _≤_}
+use Prim.Native.Nat.{ℕ, _+_, _-_, _*_, _<_, _≤_}
+use native.Mathlib.Omega.{arith}
 use mathlib.Core.Path.{_≡_, refl, sym, subst, _∙_}
 use mathlib.Core.Bool.{Bool, true, false}
 use mathlib.Core.List.{List}
@@ -8,6 +9,7 @@ use Rattle.rules.specs.Limits.{noteSize, barSize, noteLimit, pitchCapacity}
 use Rattle.rules.specs.Values.{Length}
 use Rattle.rules.specs.Rules as rules
 use Rattle.rules.specs.Rules.{step}
+use Rattle.limits.specs.declared.Counts.{Counts}
 use Rattle.limits.specs.declared.Pae.{Pae}
 use Rattle.decode.specs.declared.Figure.{Figure}
 use Rattle.decode.specs.declared.Figure.the-variants as f
@@ -31,6 +33,10 @@ use Rattle.simulation.proofs.AttributeLaws.{attributes-agree}
 use Rattle.simulation.proofs.GroupsLaws.{groups-agree}
 use Rattle.storing.proofs.StepLaws as storing
 use Rattle.reading.specs.Cells.{notesNext, barsNext, heldNext}
+
+-- the open bar's number, from 1
+here-bar : (c : Counts) → c .bars + 1 - 1 ≡ c .bars
+here-bar c = omega arith
 
 -- the state, the table and the cells stand to the rules' state
 pub record Related (size barsSize : ℕ) (s : rules.State) (st : Pae) (table : Table) (notes bars held : List ℤ) : Type 0 where
@@ -198,7 +204,7 @@ module _ (place offset width b : ℕ) (value : List ℕ) {size barsSize : ℕ} {
   token-related token h q = record {
     voice = voice-agrees place offset width b value (w .voice) token joined (endsOf (st .counts) notes) h rules-join (sym (ends-agree (s .openBar) (w .stored)));
     attributes = attributes-agree place offset width b value st (w .attributes) (open-empty (s .openBar) (w .stored)) token;
-    groups = groups-agree place offset width b value (w .groups) (st .counts) (λ i. record { bar = w .stored .bars i; from = length-open (w .stored) i }) token;
+    groups = groups-agree place offset width b value (w .groups) (st .counts) (λ i. record { bar = (here-bar (st .counts) ∙ w .stored .bars) i; from = length-open (w .stored) i }) token;
     tabled = tabled-agrees token h;
     stored = stored-agrees token h q;
     barred = barred-agrees token q;

@@ -344,7 +344,8 @@ pub fn read_data(
                 Marking::GroupCount => {
                     let from = first + 1;
                     let value = text::count(&data[from..end]);
-                    let found = count_found(st.groups.paren.noted, value, span);
+                    let noted = state::is_noted(st.groups.paren);
+                    let found = count_found(noted, value, span);
                     st.diagnostics = store_found(scratch, st.diagnostics, found);
                     st.groups = state::paren_counted(st.groups, value);
                     continue;

@@ -19,7 +19,7 @@ use Rattle.decode.specs.declared.Marking.{Marking}
 use Rattle.decode.specs.declared.Marking.the-variants as m
 use Rattle.decode.specs.declared.Token.{Token}
 use Rattle.decode.specs.declared.Token.the-variants as t
-use Rattle.steps.specs.State.{hasContent}
+use Rattle.steps.specs.State.{hasContent, isNoted}
 use Rattle.steps.specs.Relation.{Voiced, startOf, Grouped, countIn}
 use Rattle.remarks.specs.Remarks.{figureFound, markingFound, tokenFound}
 
@@ -59,22 +59,22 @@ module _
     (barred : eqb (st .counts .bars) 0 ≡ isEmpty (s .bars))
     (ended : ends ≡ endsInNote (s .openBar)) where
   figures-agree : (figure : Figure) → figureFound figure st x ≡ figureDiagnosed x s (figureIn figure)
-  figures-agree f.Mark = rw (grouped .figure, numbered) (given-noted (st .groups .figure .noted) _ _ _ (λ e. refl))
+  figures-agree f.Mark = rw (grouped .figure) (given-noted (isNoted (st .groups .figure)) _ _ _ (λ e. rw (e, numbered)))
   figures-agree f.Repeat = rw figured
   figures-agree f.Bar = rw (content, barred, not-not (isEmpty (s .openBar)))
 
-  markings-agree : (marking : Marking) → (marking ≡ m.GroupClose → st .groups .paren .noted ≡ true → closing ≡ closingOf (openGroup (st .groups)) s)
+  markings-agree : (marking : Marking) → (marking ≡ m.GroupClose → isNoted (st .groups .paren) ≡ true → closing ≡ closingOf (openGroup (st .groups)) s)
       → markingFound marking value st ends closing x ≡ markingDiagnosed x s (markingIn value marking)
   markings-agree m.BeamOpen closes = refl
   markings-agree m.BeamClose closes = refl
   markings-agree m.GroupOpen closes = refl
-  markings-agree m.GroupCount closes = rw (grouped .paren, ← isSome-noted (st .groups .paren .noted) (openGroup (st .groups)))
-  markings-agree m.GroupClose closes = rw (grouped .paren, numbered) (given-noted (st .groups .paren .noted) (openGroup (st .groups)) _ (groupDiagnosed x s) (λ e. rw (closes refl e)))
+  markings-agree m.GroupCount closes = rw (grouped .paren, ← isSome-noted (isNoted (st .groups .paren)) (openGroup (st .groups)))
+  markings-agree m.GroupClose closes = rw (grouped .paren) (given-noted (isNoted (st .groups .paren)) (openGroup (st .groups)) _ (groupDiagnosed x s) (λ e. rw (e, closes refl e, numbered)))
   markings-agree m.Tie closes = rw ended
   markings-agree m.Trill closes = rw content
 
   -- closes: what is handed in for an open group's `)` is what it closes to
-  pub remarks-agree : (b : ℕ) (token : Token) → (token ≡ t.Marking m.GroupClose → st .groups .paren .noted ≡ true → closing ≡ closingOf (openGroup (st .groups)) s)
+  pub remarks-agree : (b : ℕ) (token : Token) → (token ≡ t.Marking m.GroupClose → isNoted (st .groups .paren) ≡ true → closing ≡ closingOf (openGroup (st .groups)) s)
       → tokenFound token value st ends closing x ≡ tokenDiagnosed x s (tokenIn b value token)
   remarks-agree b t.Clef closes = rw content (cond-not (isEmpty (s .openBar)) _ _)
   remarks-agree b t.Key closes = rw content (cond-not (isEmpty (s .openBar)) _ _)

@@ -24,7 +24,7 @@ use Rattle.decode.specs.declared.Marking.{Marking}
 use Rattle.decode.specs.declared.Marking.the-variants as m
 use Rattle.decode.specs.declared.Token.{Token}
 use Rattle.decode.specs.declared.Token.the-variants as t
-use Rattle.steps.specs.State.{hasContent}
+use Rattle.steps.specs.State.{hasContent, isNoted, reaches}
 use Rattle.remarks.specs.declared.Span.{Span}
 
 -- ---- where a token stands
@@ -79,7 +79,7 @@ octaveFound octave x = unless (isSome (octaveIn octave)) (whole 8 x)
 
 -- the second `!` in a later bar, d17
 abbrev pub markFound : Start → Counts → rules.Item → List Diagnostic
-markFound figure c x = cond (figure .noted) (unless (eqb (figure .bar) (c .bars)) (whole 17 x)) []
+markFound figure c x = cond (isNoted figure) (unless (reaches figure c) (whole 17 x)) []
 
 -- `f` of an empty figure, d18; `i` not in an empty bar after a stored one, d19
 abbrev pub figureFound : Figure → Pae → rules.Item → List Diagnostic
@@ -95,7 +95,7 @@ countFound noted count x = unless (noted && isSome count) (after 12 x)
 
 -- `)` without `(`, d13; closed in a later bar, d10; else what the group closes to
 abbrev pub groupFound : Groups → Counts → Closing → rules.Item → List Diagnostic
-groupFound g c closing x = cond (g .paren .noted) (cond (eqb (g .paren .bar) (c .bars)) (closingDiagnosed x closing) (diagnostic 10 (here x) parentheses ∷ [])) (whole 13 x ∷ [])
+groupFound g c closing x = cond (isNoted (g .paren)) (cond (reaches (g .paren) c) (closingDiagnosed x closing) (diagnostic 10 (here x) parentheses ∷ [])) (whole 13 x ∷ [])
 
 -- `+` after no note or grace, d16; `t` in a bar without a record, d14
 abbrev pub markingFound : Marking → List ℕ → Pae → Bool → Closing → rules.Item → List Diagnostic
@@ -103,7 +103,7 @@ markingFound marking value st ends closing x = elim marking [
   | m.BeamOpen ↦ []
   | m.BeamClose ↦ []
   | m.GroupOpen ↦ []
-  | m.GroupCount ↦ countFound (st .groups .paren .noted) (countOf value) x
+  | m.GroupCount ↦ countFound (isNoted (st .groups .paren)) (countOf value) x
   | m.GroupClose ↦ groupFound (st .groups) (st .counts) closing x
   | m.Tie ↦ unless ends (whole 16 x)
   | m.Trill ↦ unless (hasContent (st .counts)) (whole 14 x)

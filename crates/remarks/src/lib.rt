@@ -24,6 +24,8 @@ use records::diagnostic::at_data;
 use records::diagnostic::at_data_number;
 use records::diagnostic::at_data_parentheses;
 use records::group::Closing;
+use steps::state::is_noted;
+use steps::state::reaches;
 use text::Count;
 use values::attributes::ClefValue;
 use values::attributes::Key;
@@ -129,8 +131,8 @@ pub fn mark_found(figure: Start, counts: Counts, span: Span) -> Found
     requires { ⌜ SpanFits span ⌝ }
     ensures { λ r. ⌜ foundIn r ≡ map diagnosticWords (markFound figure counts (itemIn span)) ⌝ }
 {
-    if figure.noted {
-        return unless(figure.bar == counts.bars, 17, span);
+    if is_noted(figure) {
+        return unless(reaches(figure, counts), 17, span);
     }
     Found::Nothing
 }
@@ -172,8 +174,8 @@ pub fn group_found(groups: Groups, counts: Counts, closing: Closing, span: Span)
     ensures { λ r. ⌜ foundIn r ≡ map diagnosticWords (groupFound groups counts (closingOf closing) (itemIn span)) ⌝ }
 {
     let paren = groups.paren;
-    if paren.noted {
-        if paren.bar == counts.bars {
+    if is_noted(paren) {
+        if reaches(paren, counts) {
             return closing_found(closing, span);
         }
         return Found::One(at_data_parentheses(10, span.place));

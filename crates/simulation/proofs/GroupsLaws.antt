@@ -1,7 +1,7 @@
 -- The starts that `!`, `{` and `(` note, and the open group's count (01, 'Figures', 'Groups and marks'). Assumes nothing.
-use Prim.Native.Nat.{ℕ, _≤_}
+use Prim.Native.Nat.{ℕ, _+_, _≤_}
 use native.Mathlib.Omega.{arith}
-use mathlib.Core.Path.{_≡_, refl, sym, ap, _∙_}
+use mathlib.Core.Path.{_≡_, refl, _∙_}
 use mathlib.Core.Bool.{Bool, true, false, cond, _&&_}
 use mathlib.Core.Option.{Option, none, some}
 use mathlib.Core.List.{List}
@@ -22,7 +22,7 @@ use Rattle.decode.specs.declared.Marking.{Marking}
 use Rattle.decode.specs.declared.Marking.the-variants as m
 use Rattle.decode.specs.declared.Token.{Token}
 use Rattle.decode.specs.declared.Token.the-variants as t
-use Rattle.steps.specs.State.{startHere, figureMarked}
+use Rattle.steps.specs.State.{startHere, isNoted, figureMarked}
 use Rattle.steps.specs.Steps.{figureGroups, markingGroups, groupsNext}
 use Rattle.steps.specs.Relation.{startOf, startIn, Grouped}
 use Rattle.simulation.proofs.Items.{itemIn}
@@ -55,6 +55,10 @@ groupsOf s = (s .figureStart, s .beamStart, s .group)
 pub fresh-grouped : (k : rules.Attributes) → Grouped (freshPae .groups) (rules.fresh k)
 fresh-grouped k = record { figure = refl; beam = refl; paren = refl; count = omega arith }
 
+-- a start here is noted
+noted-here : (c : Counts) → isNoted (startHere c) ≡ true
+noted-here c = rw (ne-eqb (c .bars + 1) 0 (λ z. omega (arith, z)))
+
 module _ {g : Groups} {s : rules.State} (w : Grouped g s) where
   -- a token that leaves all of it alone
   kept : {s′ : rules.State} → groupsOf s′ ≡ groupsOf s → Grouped g s′
@@ -62,18 +66,18 @@ module _ {g : Groups} {s : rules.State} (w : Grouped g s) where
 
   -- 'First `!` notes the open bar's length', with its bar; the second closes
   figure-marked : (c : Counts) → startOf (startHere c) ≡ rules.startHere s → given (s .figureStart) (some (rules.startHere s)) (λ start. none) ≡ startIn (figureMarked (startHere c) g .figure)
-  figure-marked c e = rw (w .figure, ← e) (by (g .figure .noted))
+  figure-marked c e = rw (w .figure, ← e) (by (isNoted (g .figure)))
     where
       by : (t : Bool) → given (cond t (some (startOf (g .figure))) none) (some (startOf (startHere c))) (λ start. none) ≡ startIn (cond t noStart (startHere c))
       by true = refl
-      by false = refl
+      by false = rw (noted-here c)
 
   -- '`;` sets the open group's count'; 'without `(` or with other digits or none, d12'
   count-set : (c : Option ℕ) → Counted c → {s′ : rules.State} → groupsOf s′ ≡ (s .figureStart, s .beamStart, rules.counted (s .group) c)
-      → Grouped (cond (g .paren .noted) (given c g (λ n. record { figure = g .figure; beam = g .beam; paren = g .paren; count = n })) g) s′
-  count-set c h e = by (g .paren .noted) refl c h e
+      → Grouped (cond (isNoted (g .paren)) (given c g (λ n. record { figure = g .figure; beam = g .beam; paren = g .paren; count = n })) g) s′
+  count-set c h e = by (isNoted (g .paren)) refl c h e
     where
-      by : (t : Bool) → g .paren .noted ≡ t → (c : Option ℕ) → Counted c → {s′ : rules.State} → groupsOf s′ ≡ (s .figureStart, s .beamStart, rules.counted (s .group) c)
+      by : (t : Bool) → isNoted (g .paren) ≡ t → (c : Option ℕ) → Counted c → {s′ : rules.State} → groupsOf s′ ≡ (s .figureStart, s .beamStart, rules.counted (s .group) c)
           → Grouped (cond t (given c g (λ n. record { figure = g .figure; beam = g .beam; paren = g .paren; count = n })) g) s′
       by true p none h e = kept (e ∙ rw (w .paren, p))
       by true p (some n) h e = record { figure = (λ i. e i .0) ∙ w .figure; beam = (λ i. e i .1) ∙ w .beam; paren = (λ i. e i .2) ∙ rw (w .paren, p, ne-eqb n 256 (λ z. omega arith)); count = omega arith }
@@ -93,9 +97,9 @@ module _ (place offset size b : ℕ) (value : List ℕ) {g : Groups} {s : rules.
   -- '`{` notes the open bar's length as a start, as `(` does', with its bar; '`(` notes a start, replacing any open one'
   marking-agrees : (marking : Marking) → After (t.Marking marking) (markingGroups marking value (startHere c) g)
   unfolding rules.step
-  marking-agrees m.BeamOpen = record { figure = w .figure; beam = ap some (sym e); paren = w .paren; count = w .count }
+  marking-agrees m.BeamOpen = record { figure = w .figure; beam = rw (noted-here c, e); paren = w .paren; count = w .count }
   marking-agrees m.BeamClose = record { figure = w .figure; beam = refl; paren = w .paren; count = w .count }
-  marking-agrees m.GroupOpen = record { figure = w .figure; beam = w .beam; paren = ap (λ x. some (record { start = x; count = none })) (sym e); count = omega arith }
+  marking-agrees m.GroupOpen = record { figure = w .figure; beam = w .beam; paren = rw (noted-here c, e); count = omega arith }
   marking-agrees m.GroupCount = count-set w (countOf value) (count-of value) refl
   marking-agrees m.GroupClose = record { figure = w .figure; beam = w .beam; paren = refl; count = omega arith }
   marking-agrees m.Tie = kept w refl

@@ -22,7 +22,7 @@ use Rattle.records.proofs.GroupLaws.{timed-below, timed-none}
 use Rattle.records.proofs.RenotedLaws.{fermata-one}
 use Rattle.records.proofs.StoredLaws.{part-timed}
 use Rattle.records.proofs.MarkingLaws as records
-use Rattle.steps.specs.State.{openLength, reaches, Reached, cellsFrom, countFrom}
+use Rattle.steps.specs.State.{openLength, isNoted, reaches, Reached, cellsFrom, countFrom}
 use Rattle.steps.specs.Relation.{startOf, countIn, Stored}
 use Rattle.steps.proofs.CountLaws.{length-open}
 
@@ -39,13 +39,13 @@ pub reached-count : (start : Start) (c : Counts) → reaches start c ≡ true �
 reached-count start c e = rw e
 
 -- what isn't noted reaches no bar
-pub unnoted : (start : Start) (c : Counts) → start .noted ≡ false → reaches start c ≡ false
+pub unnoted : (start : Start) (c : Counts) → isNoted start ≡ false → reaches start c ≡ false
 unnoted start c e = rw e
 
 module _ {size : ℕ} {c : Counts} {notes : List ℤ} (s : State) (r : Stored size (s .openBar) (s .bars) c notes) where
   -- ---- a noted start
 
-  module _ (start : Start) (noted : start .noted ≡ true) where
+  module _ (start : Start) (noted : isNoted start ≡ true) where
     pub bar-agrees : reaches start c ≡ inItsBar (startOf start) s
     bar-agrees = rw (noted, r .bars)
 
@@ -55,8 +55,8 @@ module _ {size : ℕ} {c : Counts} {notes : List ℤ} (s : State) (r : Stored si
     pub in-length : Reached start c → InLength (startOf start) s
     in-length h e = omega (arith, h (bar-agrees ∙ e), length-open r)
 
-  pub reached-start : (start : Start) → (start .noted ≡ true → InLength (startOf start) s) → Reached start c
-  reached-start start h e = let noted = both (start .noted) _ e .0 in omega (arith, h noted (sym (bar-agrees start noted) ∙ e), length-open r)
+  pub reached-start : (start : Start) → (isNoted start ≡ true → InLength (startOf start) s) → Reached start c
+  reached-start start h e = let noted = both (isNoted start) _ e .0 in omega (arith, h noted (sym (bar-agrees start noted) ∙ e), length-open r)
 
   -- ---- what `)` makes of its group
 
@@ -110,7 +110,7 @@ module _ {size : ℕ} {c : Counts} {notes : List ℤ} (s : State) (r : Stored si
     fermata-room e f = rw (r .first, r .written) (records.fermata-room size s g (fermata-within e) e f)
 
   -- of the group that an open `(` began
-  pub closing-open : (g : Groups) → g .paren .noted ≡ true → Reached (g .paren) c
+  pub closing-open : (g : Groups) → isNoted (g .paren) ≡ true → Reached (g .paren) c
       → closing (timedCount (cellsFrom (g .paren) c notes) (countFrom (g .paren) c)) (countIn (g .count)) ≡ closingOf (record { start = startOf (g .paren); count = countIn (g .count) }) s
   closing-open g noted h =
       ap (λ (n : ℕ). closing (timedCount (cellsFrom (g .paren) c notes) n) (countIn (g .count))) (count-agrees (g .paren) noted)

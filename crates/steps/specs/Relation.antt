@@ -1,5 +1,5 @@
 -- How the program's values stand to the rules' state: each field of the rules is a function of the program's. Assumes nothing.
-use Prim.Native.Nat.{ℕ, suc, _+_, _*_, _<_, _≤_}
+use Prim.Native.Nat.{ℕ, suc, _+_, _-_, _*_, _<_, _≤_}
 use mathlib.Core.Path.{_≡_}
 use mathlib.Core.Bool.{false, cond}
 use mathlib.Core.Option.{Option, none, some}
@@ -18,6 +18,7 @@ use Rattle.limits.specs.declared.Voice.{Voice}
 use Rattle.limits.specs.declared.Counts.{Counts}
 use Rattle.limits.specs.declared.Start.{Start}
 use Rattle.limits.specs.declared.Groups.{Groups}
+use Rattle.steps.specs.State.{isNoted}
 use Rattle.steps.specs.Accidentals.{Table, alterIn, entry}
 use Rattle.steps.specs.Notes.{graceIn}
 
@@ -57,17 +58,17 @@ pub record Attributed (a : Attributes) (s : rules.State) : Type 0 where
 -- ---- groups
 
 abbrev pub startOf : Start → rules.Start
-startOf start = record { bar = start .bar; from = start .from }
+startOf start = record { bar = start .bar - 1; from = start .from }
 
 abbrev pub startIn : Start → Option rules.Start
-startIn start = cond (start .noted) (some (startOf start)) none
+startIn start = cond (isNoted start) (some (startOf start)) none
 
 -- 256 means no count
 abbrev pub countIn : ℕ → Option ℕ
 countIn n = cond (eqb n 256) none (some n)
 
 abbrev pub groupIn : Groups → Option rules.Group
-groupIn g = cond (g .paren .noted) (some (record { start = startOf (g .paren); count = countIn (g .count) })) none
+groupIn g = cond (isNoted (g .paren)) (some (record { start = startOf (g .paren); count = countIn (g .count) })) none
 
 pub record Grouped (g : Groups) (s : rules.State) : Type 0 where
   pub figure : s .figureStart ≡ startIn (g .figure)

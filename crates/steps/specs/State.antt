@@ -1,7 +1,7 @@
 -- Changes of the reading state, part by part; over the program's own types. Assumes nothing.
 use Prim.Native.Nat.{ℕ, _+_, _-_, _*_, _≤_}
 use mathlib.Core.Path.{_≡_}
-use mathlib.Core.Bool.{Bool, true, false, cond, _&&_}
+use mathlib.Core.Bool.{Bool, true, false, not, cond, _&&_}
 use mathlib.Core.List.{List}
 use lib.IntN.{ℤ, pos}
 use lib.ListN.{drop}
@@ -118,13 +118,17 @@ repeatedCount c = cond (hasContent c) 0 (cond (eqb (c .bars) 0) 0 (c .first - c 
 
 -- ---- groups
 
--- a start here: the open bar and its length
+-- a start here: the open bar's number, from 1, and its length
 abbrev pub startHere : Counts → Start
-startHere c = record { noted = true; bar = c .bars; from = openLength c }
+startHere c = record { bar = c .bars + 1; from = openLength c }
+
+-- 0 means none
+abbrev pub isNoted : Start → Bool
+isNoted start = not (eqb (start .bar) 0)
 
 -- a start is noted, and the open bar is its own
 abbrev pub reaches : Start → Counts → Bool
-reaches start c = start .noted && eqb (start .bar) (c .bars)
+reaches start c = isNoted start && eqb (start .bar - 1) (c .bars)
 
 -- there it isn't beyond the bar's length
 abbrev pub Reached : Start → Counts → Type 0
@@ -148,7 +152,7 @@ noCount = 256
 
 -- the first `!` notes a start, the second closes
 abbrev pub figureMarked : Start → Groups → Groups
-figureMarked here g = record { figure = cond (g .figure .noted) noStart here; beam = g .beam; paren = g .paren; count = g .count }
+figureMarked here g = record { figure = cond (isNoted (g .figure)) noStart here; beam = g .beam; paren = g .paren; count = g .count }
 
 abbrev pub beamSet : Start → Groups → Groups
 beamSet start g = record { figure = g .figure; beam = start; paren = g .paren; count = g .count }
@@ -158,7 +162,7 @@ parenSet start g = record { figure = g .figure; beam = g .beam; paren = start; c
 
 -- `;` sets the open group's count
 abbrev pub countSet : Option ℕ → Groups → Groups
-countSet count g = cond (g .paren .noted) (given count g (λ n. record { figure = g .figure; beam = g .beam; paren = g .paren; count = n })) g
+countSet count g = cond (isNoted (g .paren)) (given count g (λ n. record { figure = g .figure; beam = g .beam; paren = g .paren; count = n })) g
 
 -- ---- the figure
 

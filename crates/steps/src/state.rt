@@ -5,7 +5,7 @@ ghost use Prim.Native.Nat.{_≤_, _<_};
 ghost use Rattle.limits.specs.Pae.{noStart};
 ghost use Rattle.text.specs.Counts.{numberIn};
 ghost use Rattle.values.specs.Attributes.{clefValue, keyValue, meterOption};
-ghost use Rattle.steps.specs.State.{hasContent, openLength, clefSet, keySet, meterSet, newBar, barAttributes, accidentalSet, graceSet, letterJoined, letterOpened, counted, barCounted, repeatedCount, startHere, reaches, Reached, countFrom, figureMarked, beamSet, parenSet, countSet, figureClosed};
+ghost use Rattle.steps.specs.State.{hasContent, openLength, clefSet, keySet, meterSet, newBar, barAttributes, accidentalSet, graceSet, letterJoined, letterOpened, counted, barCounted, repeatedCount, startHere, isNoted, reaches, Reached, countFrom, figureMarked, beamSet, parenSet, countSet, figureClosed};
 use limits::Attributes;
 use limits::Counts;
 use limits::Groups;
@@ -193,12 +193,11 @@ pub fn repeated_count(counts: Counts) -> usize
 
 // A start here.
 pub fn start_here(counts: Counts) -> Start
-    requires { ⌜ counts .first ≤ counts .notes ⌝ }
+    requires { ⌜ (counts .first ≤ counts .notes) × (counts .bars < 4294967296) ⌝ }
     ensures { λ r. ⌜ r ≡ startHere counts ⌝ }
 {
     Start {
-        noted: true,
-        bar: counts.bars,
+        bar: counts.bars + 1,
         from: open_length(counts),
     }
 }
@@ -206,18 +205,23 @@ pub fn start_here(counts: Counts) -> Start
 fn no_start() -> Start
     ensures { λ r. ⌜ r ≡ noStart ⌝ }
 {
-    Start {
-        noted: false,
-        bar: 0,
-        from: 0,
-    }
+    Start { bar: 0, from: 0 }
+}
+
+pub fn is_noted(start: Start) -> bool
+    ensures { λ r. ⌜ r ≡ isNoted start ⌝ }
+{
+    start.bar != 0
 }
 
 // A start is noted, and the open bar is its own.
 pub fn reaches(start: Start, counts: Counts) -> bool
     ensures { λ r. ⌜ r ≡ reaches start counts ⌝ }
 {
-    start.noted & (start.bar == counts.bars)
+    if start.bar == 0 {
+        return false;
+    }
+    start.bar - 1 == counts.bars
 }
 
 // How many of the open bar's records stand from a start on: in a later bar none.
@@ -235,7 +239,7 @@ pub fn count_from(start: Start, counts: Counts) -> usize
 pub fn figure_marked(mut groups: Groups, here: Start) -> Groups
     ensures { λ r. ⌜ r ≡ figureMarked here groups ⌝ }
 {
-    if groups.figure.noted {
+    if is_noted(groups.figure) {
         groups.figure = no_start();
         return groups;
     }
@@ -277,7 +281,7 @@ pub fn paren_closed(mut groups: Groups) -> Groups
 pub fn paren_counted(mut groups: Groups, count: Count) -> Groups
     ensures { λ r. ⌜ r ≡ countSet (numberIn count) groups ⌝ }
 {
-    if groups.paren.noted {
+    if is_noted(groups.paren) {
         match count {
             Count::Number(n) => {
                 groups.count = n as u16;

@@ -24,7 +24,7 @@ use Rattle.records.specs.Copies.{copies}
 use Rattle.records.specs.Notes.{pitchCountAt}
 use Rattle.records.specs.Groups.{timedCount, beamed, onPart}
 use Rattle.records.proofs.CellLaws.{padded-none}
-use Rattle.steps.specs.State.{hasContent, counted, barCounted, repeatedCount, reaches, Reached, recordFrom, cellsFrom, countFrom, figureClosed}
+use Rattle.steps.specs.State.{hasContent, counted, barCounted, repeatedCount, isNoted, reaches, Reached, recordFrom, cellsFrom, countFrom, figureClosed}
 use Rattle.steps.specs.Notes.{lastField, endsOf, joinsOf, pitchIn, joinedCells, openedCells, restCells, wholeBarCells, tiedCells, trilledCells, closedCells}
 use Rattle.steps.specs.Relation.{startOf, countIn, Voiced, Grouped, Stored, Figured}
 use Rattle.steps.proofs.CountLaws.{ends-agree}
@@ -148,7 +148,7 @@ module _ {size : ℕ} {c : Counts} {notes : List ℤ} (place offset width : ℕ)
     pub figure-mark-figured : Reached (g .figure) c → {old : ℕ} {held : List ℤ} → Figured (s .figure) old held → let start = g .figure in
         Figured (step (item (figure figureMark)) s .figure) (figureClosed g c old) (cond (reaches start c) (written held 0 (take (countFrom start c * noteSize) (cellsFrom start c notes))) held)
     unfolding step
-    figure-mark-figured h {old} {held} f = rw (w .figure) (go (g .figure .noted) refl)
+    figure-mark-figured h {old} {held} f = rw (w .figure) (go (isNoted (g .figure)) refl)
       where
         start : Start
         start = g .figure
@@ -161,14 +161,14 @@ module _ {size : ℕ} {c : Counts} {notes : List ℤ} (place offset width : ℕ)
         by l true e = figure-closed r (start .from) (rules.countFrom (startOf start) s) held (all-from s (startOf start) l e)
         by l false e = f
 
-        go : (noted : Bool) → start .noted ≡ noted → Marked (cond noted (some (startOf start)) none) (reaches start c) (countFrom start c)
+        go : (noted : Bool) → isNoted start ≡ noted → Marked (cond noted (some (startOf start)) none) (reaches start c) (countFrom start c)
         go true e = subst-both (λ here m. Marked (some (startOf start)) here m) (bar-agrees s r start e) (count-agrees s r start e) (by (in-length s r start e h) (inItsBar (startOf start) s) refl)
         go false e = subst (λ here. Marked none here (countFrom start c)) (sym (unnoted start c e)) f
 
     -- '`}` beams the open bar's non-grace records from that length on .. without `{` nothing'
     pub beam-close-stored : Reached (g .beam) c → let start = g .beam in After (marking beamClose) c (cond (reaches start c) (onPart (recordFrom start c) (λ part. beamed part (countFrom start c)) notes) notes)
     unfolding step
-    beam-close-stored h = subst (λ x. Beamed x (reaches (g .beam) c) (countFrom (g .beam) c)) (sym (w .beam)) (go (g .beam .noted) refl)
+    beam-close-stored h = subst (λ x. Beamed x (reaches (g .beam) c) (countFrom (g .beam) c)) (sym (w .beam)) (go (isNoted (g .beam)) refl)
       where
         start : Start
         start = g .beam
@@ -180,7 +180,7 @@ module _ {size : ℕ} {c : Counts} {notes : List ℤ} (place offset width : ℕ)
         by l true e = beam-closed s r (startOf start) l e
         by l false e = beam-later s r (startOf start) e
 
-        go : (noted : Bool) → start .noted ≡ noted → Beamed (cond noted (some (startOf start)) none) (reaches start c) (countFrom start c)
+        go : (noted : Bool) → isNoted start ≡ noted → Beamed (cond noted (some (startOf start)) none) (reaches start c) (countFrom start c)
         go true e = subst-both (λ here m. Beamed (some (startOf start)) here m) (bar-agrees s r start e) (count-agrees s r start e) (by (in-length s r start e h) (inItsBar (startOf start) s) refl)
         go false e = subst (λ here. Beamed none here (countFrom start c)) (sym (unnoted start c e)) (untouched r)
 
@@ -188,7 +188,7 @@ module _ {size : ℕ} {c : Counts} {notes : List ℤ} (place offset width : ℕ)
     pub group-close-stored : Reached (g .paren) c → let start = g .paren in
         After (marking groupClose) c (cond (reaches start c) (closedCells (closing (timedCount (cellsFrom start c notes) (countFrom start c)) (countIn (g .count))) (recordFrom start c) (countFrom start c) notes) notes)
     unfolding step
-    group-close-stored h = subst (λ x. Closed x (reaches (g .paren) c) (countFrom (g .paren) c)) (sym (w .paren)) (go (g .paren .noted) refl)
+    group-close-stored h = subst (λ x. Closed x (reaches (g .paren) c) (countFrom (g .paren) c)) (sym (w .paren)) (go (isNoted (g .paren)) refl)
       where
         start : Start
         start = g .paren
@@ -204,6 +204,6 @@ module _ {size : ℕ} {c : Counts} {notes : List ℤ} (place offset width : ℕ)
         by l true e = rw (closing-read s r group l) (group-closed group l (closingOf group s) refl)
         by l false e = nothing-closed s r group l (closing-later s r group l e)
 
-        go : (noted : Bool) → start .noted ≡ noted → Closed (cond noted (some group) none) (reaches start c) (countFrom start c)
+        go : (noted : Bool) → isNoted start ≡ noted → Closed (cond noted (some group) none) (reaches start c) (countFrom start c)
         go true e = subst-both (λ here m. Closed (some group) here m) (bar-agrees s r start e) (count-agrees s r start e) (by (in-length s r start e h) (inItsBar (startOf start) s) refl)
         go false e = subst (λ here. Closed none here (countFrom start c)) (sym (unnoted start c e)) (untouched r)

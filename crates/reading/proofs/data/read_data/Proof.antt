@@ -167,6 +167,10 @@ module _ (x : tie.After-span-of Inv-loop μ-loop) where
   paren-here : Reached (st .groups .paren) (st .counts)
   paren-here = paren-reached bytes start (attributesIn taken) (x .before .before .before .before .before .before .before .before .before .before .before .before .args .diagnostics) (x .before .before .before .before .before .before .before .before .before .before .before .before .args .scratch .now) (length (x .before .before .before .before .before .before .before .before .before .before .before .before .args .notes .now)) (length (x .before .before .before .before .before .before .before .before .before .before .before .before .args .bars .now)) (length (x .before .before .before .before .before .before .before .before .before .before .before .before .args .figure .now)) room 0 (x .before .before .before .before .before .loop .inv)
 
+  -- there are few bars
+  few-bars : st .counts .bars < 4294967296
+  few-bars = let w = x .before .before .before .before .before .loop .inv in omega (arith, w .few, first-below (w .related .stored), w .related .stored .capped)
+
   -- the notes stand in the cells
   held-here : st .counts .notes * noteSize ≤ length notes
   held-here = let w = x .before .before .before .before .before .loop .inv in omega (arith, w .related .stored .fits, length-notes (w .related .stored))
@@ -867,7 +871,7 @@ figure-closed-requires : tie.Need-figure-closed-requires Inv-loop μ-loop
 figure-closed-requires c κs = (first-below (c .before .before .before .before .before .before .before .before .before .before .before .before .before .before .before .before .before .before .before .before .loop .inv .related .stored), figure-here (c .before .before .before .before .before .before .before .before .before .before .before .before .before .before .before))
 
 start-here-requires : tie.Need-start-here-requires Inv-loop μ-loop
-start-here-requires c κs = first-below (c .before .before .before .before .before .before .before .before .before .before .before .before .before .before .before .before .before .before .before .before .before .loop .inv .related .stored)
+start-here-requires c κs = (first-below (c .before .before .before .before .before .before .before .before .before .before .before .before .before .before .before .before .before .before .before .before .before .loop .inv .related .stored), few-bars (c .before .before .before .before .before .before .before .before .before .before .before .before .before .before .before .before))
 
 figure-marked-requires : tie.Need-figure-marked-requires Inv-loop μ-loop
 figure-marked-requires c κs = tt
@@ -996,7 +1000,7 @@ enum-told-12 : tie.Need-enum-told-12 Inv-loop μ-loop
 enum-told-12 c = search needs
 
 start-here-requires-2 : tie.Need-start-here-requires-2 Inv-loop μ-loop
-start-here-requires-2 c κs = first-below (c .before .before .before .before .before .before .before .before .before .before .loop .inv .related .stored)
+start-here-requires-2 c κs = (first-below (c .before .before .before .before .before .before .before .before .before .before .loop .inv .related .stored), few-bars (c .before .before .before .before .before))
 
 beam-opened-requires : tie.Need-beam-opened-requires Inv-loop μ-loop
 beam-opened-requires c κs = tt
@@ -1028,7 +1032,7 @@ enum-told-14 : tie.Need-enum-told-14 Inv-loop μ-loop
 enum-told-14 c = search needs
 
 start-here-requires-3 : tie.Need-start-here-requires-3 Inv-loop μ-loop
-start-here-requires-3 c κs = first-below (c .before .before .before .before .before .before .before .before .before .before .loop .inv .related .stored)
+start-here-requires-3 c κs = (first-below (c .before .before .before .before .before .before .before .before .before .before .loop .inv .related .stored), few-bars (c .before .before .before .before .before))
 
 paren-opened-requires : tie.Need-paren-opened-requires Inv-loop μ-loop
 paren-opened-requires c κs = tt
@@ -1058,8 +1062,11 @@ part-count-end c = omega (arith, further-here (c .before .before .before .before
 count-requires : tie.Need-count-requires Inv-loop μ-loop
 count-requires c κs = tt
 
+is-noted-requires : tie.Need-is-noted-requires Inv-loop μ-loop
+is-noted-requires c κs = tt
+
 count-found-requires : tie.Need-count-found-requires Inv-loop μ-loop
-count-found-requires c κs = fits-here (c .before .before .before .before .before .before .before)
+count-found-requires c κs = fits-here (c .before .before .before .before .before .before .before .before)
 
 store-found-requires-10 : tie.Need-store-found-requires-10 Inv-loop μ-loop
 store-found-requires-10 c κs = tt
@@ -1068,16 +1075,17 @@ paren-counted-requires : tie.Need-paren-counted-requires Inv-loop μ-loop
 paren-counted-requires c κs = tt
 
 loop-less-23 : tie.Need-loop-less-23 Inv-loop μ-loop
-loop-less-23 c = omega (arith, further-here (c .before .before .before .before .before .before .before .before .before .before .before .before), within-here (c .before .before .before .before .before .before .before .before .before .before .before .before))
+loop-less-23 c = omega (arith, further-here (c .before .before .before .before .before .before .before .before .before .before .before .before .before), within-here (c .before .before .before .before .before .before .before .before .before .before .before .before .before))
 
 loop-again-23 : tie.Need-loop-again-23 Inv-loop μ-loop
 unfolding remarked stepped takenNext notesNext barsNext heldNext
 loop-again-23 c =
-    let s = c .before .before .before .before .before .before .before .before .before .before .before .before .before .before .before .before .before .loop .st in
-    let v = c .before .before .before .before .before .count .ensures in
+    let s = c .before .before .before .before .before .before .before .before .before .before .before .before .before .before .before .before .before .before .loop .st in
+    let v = c .before .before .before .before .before .before .count .ensures in
+    let noted = c .before .before .before .before .before .is-noted .ensures in
     let r = c .before .before .store-found10 in
-    let words = c .before .before .before .before .count-found .ensures ∙ (λ i. map diagnosticWords (countFound (s .groups .paren .noted) (v i) (itemIn (c .before .before .before .before .before .before .before .before .before .before .before .before .span-of .ensures i)))) in
-    go-on (c .before .before .before .before .before .before .before .before .before .before .before .before) (c .before .before .before .before .before .before .before .before .before .before .token9 .given .1 ∙ ap (λ (w : Marking). t.Marking w) (c .before .before .before .before .before .before .before .enum-told15 .given .1)) refl (joining (c .before .before .before .before .before .before .before .before .before .before .before .before)) refl refl words (r .ensures .0) (r .ensures .1) refl
+    let words = c .before .before .before .before .count-found .ensures ∙ (λ i. map diagnosticWords (countFound (noted i) (v i) (itemIn (c .before .before .before .before .before .before .before .before .before .before .before .before .before .span-of .ensures i)))) in
+    go-on (c .before .before .before .before .before .before .before .before .before .before .before .before .before) (c .before .before .before .before .before .before .before .before .before .before .before .token9 .given .1 ∙ ap (λ (w : Marking). t.Marking w) (c .before .before .before .before .before .before .before .before .enum-told15 .given .1)) refl (joining (c .before .before .before .before .before .before .before .before .before .before .before .before .before)) refl refl words (r .ensures .0) (r .ensures .1) refl
     (λ i. withDiagnostics (r .result) (withGroups ((c .paren-counted .ensures ∙ ap (λ (k : Option ℕ). countSet k (s .groups)) v) i) s)) refl refl refl refl refl refl refl (r .kept .0)
 
 enum-told-16 : tie.Need-enum-told-16 Inv-loop μ-loop
@@ -1539,6 +1547,7 @@ read-data-spec =
     part-count-start
     part-count-end
     count-requires
+    is-noted-requires
     count-found-requires
     store-found-requires-10
     paren-counted-requires
