@@ -1,9 +1,11 @@
-/* A proved reader of Plaine & Easie Code (PAE) incipits: three functions over lent buffers. pae_read
- * reads a text into records, pae_write_card makes a card of the records, the bytes to be stored, and
- * pae_read_card reads the card back.
+/* A proved reader of Plaine & Easie Code (PAE) incipits. pae_read reads a text into records,
+ * pae_write_card makes a card of the records, the bytes to be stored, and pae_read_card reads the card
+ * back. pae_version says which reader this is.
  *
- * They allocate nothing, keep nothing between calls and write only to the buffers lent to them. Link
- * libpae.a, which `rt staticlib pae` writes to target/staticlib.
+ * The functions work on your buffers: they allocate nothing, keep nothing between calls, so that any
+ * number of threads may call at once, and write to no memory but your buffers and the stack, of which
+ * a call takes less than PAE_STACK_BYTES (32 KB). Link libpae.a, which `rt staticlib pae` writes to
+ * target/staticlib. C99 and C++11 or later.
  *
  * Texts are in UTF-8. Data places count the characters (Unicode scalar values) of the data from 1;
  * in field form the data are the trimmed value of the last @data: field, else they are the whole
@@ -31,7 +33,12 @@ extern "C" {
 #define PAE_MAX_WHOLE_BARS 1000   /* bars of one rest of whole bars */
 #define PAE_MAX_PITCHES 8         /* pitches of a note */
 #define PAE_MAX_MARKS 8           /* marks of a note */
-#define PAE_DIAGNOSTIC_CELLS 1024 /* diagnostics stored, and the fewest cells to lend */
+#define PAE_DIAGNOSTIC_CELLS 1024 /* diagnostics stored, and the fewest cells of your buffer */
+
+/* More than the stack that a call takes, in bytes. As tests/c/stack.c measures it, pae_read takes less
+ * than 28 KB and another function less than 1 KB; the first call takes up to 4 KB more where the dynamic
+ * linker binds memset and memcpy only then. */
+#define PAE_STACK_BYTES 32768
 
 /* The sizes of the records, in words of 32 bits. */
 #define PAE_PITCH_WORDS 4
@@ -46,8 +53,9 @@ extern "C" {
 #define PAE_CARD_BYTES(notes, bars) \
     (PAE_CARD_FRONT_BYTES + (size_t)(bars) * PAE_CARD_BAR_BYTES + (size_t)(notes) * PAE_CARD_NOTE_BYTES)
 
-/* The words of a note record, and of a figure record. */
+/* The positions of the words in the records, in one enum so that C++ adds them without a warning. */
 enum {
+    /* A note record, and a figure record. */
     PAE_NOTE_PLACE = 0,         /* data place of the token that stored it: a letter, - = f or i */
     PAE_NOTE_KIND = 1,          /* PAE_KIND_... */
     PAE_NOTE_DURATION = 2,      /* PAE_DURATION_...; 0 for a whole-bar rest, which has none */
@@ -60,19 +68,15 @@ enum {
     PAE_NOTE_MARKS = 9,         /* bit i is mark i in order of arrival: 1 trill, 0 fermata */
     PAE_NOTE_PITCH_COUNT = 10,  /* 0 for a rest of either kind, else 1 to PAE_MAX_PITCHES */
     PAE_NOTE_BAR = 11,          /* number of its bar, from 1 */
-    PAE_NOTE_PITCHES = 12       /* the first pitch; unused pitches are 0 */
-};
+    PAE_NOTE_PITCHES = 12,      /* the first pitch; unused pitches are 0 */
 
-/* The words of a pitch. Pitch i of a note starts at PAE_NOTE_PITCHES + i * PAE_PITCH_WORDS. */
-enum {
+    /* A pitch. Pitch i of a note starts at PAE_NOTE_PITCHES + i * PAE_PITCH_WORDS. */
     PAE_PITCH_PLACE = 0,  /* data place of its letter */
     PAE_PITCH_STEP = 1,   /* 0 to 6: C D E F G A B */
     PAE_PITCH_OCTAVE = 2, /* 0 to 9; 4 begins at middle C */
-    PAE_PITCH_ALTER = 3   /* semitones, -2 to 2; key and bar are accounted for */
-};
+    PAE_PITCH_ALTER = 3,  /* semitones, -2 to 2; key and bar are accounted for */
 
-/* The words of a bar record. */
-enum {
+    /* A bar record. */
     PAE_BAR_FIRST_NOTE = 0,  /* index of its first note, from 0 */
     PAE_BAR_NOTE_COUNT = 1,  /* number of its notes, at least 1 */
     PAE_BAR_CLEF = 2,        /* PAE_CLEF_... set at its start; 0: none. The first bar has one */
@@ -82,7 +86,7 @@ enum {
     PAE_BAR_DENOMINATOR = 6, /* a power of two, 1 to 128; 0: no meter */
     PAE_BAR_SYMBOL = 7,      /* PAE_SYMBOL_... of that meter; 0: its numbers */
     PAE_BAR_LEFT = 8,        /* PAE_BARLINE_... before it */
-    PAE_BAR_RIGHT = 9        /* PAE_BARLINE_... behind it */
+    PAE_BAR_RIGHT = 9        /* PAE_BARLINE_... after it */
 };
 
 enum {
@@ -144,37 +148,37 @@ enum {
     PAE_BARLINE_REPEAT_END = 3    /* right only */
 };
 
-/* Why a text is refused: the number of a PaeReading, and what its place is. Checked in this order,
- * 7 to 12 at each token from the left; the records and barlines of a rest of whole bars in turn, all
- * at the place of its =. 6 is not given. */
+/* Why a text or a card is refused. */
 enum {
     PAE_ACCEPTED = 0,
+
+    /* A text: the number of a PaeReading, and what its place is. Checked in this order, 7 to 12 at
+     * each token from the left; the records and barlines of a rest of whole bars in turn, all at the
+     * place of its =. 6 is not given. */
     PAE_REFUSED_TOO_LARGE = 1,         /* the text is over PAE_MAX_TEXT; place 0 */
-    PAE_REFUSED_DIAGNOSTIC_CELLS = 2,  /* fewer than PAE_DIAGNOSTIC_CELLS lent; place 0 */
+    PAE_REFUSED_DIAGNOSTIC_CELLS = 2,  /* fewer than PAE_DIAGNOSTIC_CELLS; place 0 */
     PAE_REFUSED_MALFORMED_UTF8 = 3,    /* the text is no well-formed UTF-8; place 0 */
     PAE_REFUSED_BLANK = 4,             /* the text is blank; place 0 */
     PAE_REFUSED_NO_DATA = 5,           /* field form without a data field; place 0 */
     PAE_REFUSED_TOO_MANY_NOTES = 7,    /* over PAE_MAX_NOTES; data place of the token */
-    PAE_REFUSED_NOTE_RECORDS = 8,      /* over the lent note records; data place of the token */
+    PAE_REFUSED_NOTE_RECORDS = 8,      /* over your note records; data place of the token */
     PAE_REFUSED_TOO_MANY_PITCHES = 9,  /* over PAE_MAX_PITCHES; data place of the letter */
     PAE_REFUSED_TOO_MANY_MARKS = 10,   /* over PAE_MAX_MARKS; data place of the t or ) */
-    PAE_REFUSED_FIGURE_RECORDS = 11,   /* over the lent figure records; data place of the ! */
-    PAE_REFUSED_BAR_RECORDS = 12,      /* over the lent bar records; data place of the barline or
+    PAE_REFUSED_FIGURE_RECORDS = 11,   /* over your figure records; data place of the ! */
+    PAE_REFUSED_BAR_RECORDS = 12,      /* over your bar records; data place of the barline or
                                           the =, at the end the data's length in characters plus 1 */
-    PAE_REFUSED_NO_NOTES = 13          /* the data hold no note and no rest; place 0 */
-};
+    PAE_REFUSED_NO_NOTES = 13,         /* the data hold no note and no rest; place 0 */
 
-/* Why a card is refused: the number of a PaeCardWritten or PaeCardRead, else PAE_ACCEPTED. */
-enum {
+    /* A card: the number of a PaeCardWritten or PaeCardRead. */
     PAE_REFUSED_NOT_A_CARD = 14, /* not the bytes of a card; of the writer, not records of a card */
-    PAE_REFUSED_CARD_ROOM = 15   /* card or records don't fit what is lent; checked after 14 */
+    PAE_REFUSED_CARD_ROOM = 15   /* card or records don't fit your buffers; checked after 14 */
 };
 
 /* What a diagnostic is about. acorde's code is pae.unsupported- and the word in brackets. */
 enum {
     PAE_D_UNSUPPORTED_LINE = 1,      /* [line] in field form, a line that is no field */
     PAE_D_UNSUPPORTED_FIELD = 2,     /* [field] none of clef, keysig, timesig and data */
-    PAE_D_MID_MEASURE_CHANGE = 3,    /* [mid-measure-change] clef, key or meter behind a note */
+    PAE_D_MID_MEASURE_CHANGE = 3,    /* [mid-measure-change] clef, key or meter after a note */
     PAE_D_MENSURAL_CLEF = 4,         /* [clef] a + clef, read as a modern one */
     PAE_D_UNSUPPORTED_CLEF = 5,      /* [clef] another clef; it isn't taken */
     PAE_D_UNSUPPORTED_KEY = 6,       /* [key] out of the usual order; the alterations hold */
@@ -215,7 +219,7 @@ typedef struct PaeDiagnostic {
     int32_t place;      /* from 1 */
     int32_t value_kind; /* PAE_VALUE_... */
     int32_t start;      /* offset in bytes of the value in the text, or the number */
-    int32_t end;        /* offset in bytes behind the value */
+    int32_t end;        /* offset in bytes where the value ends */
 } PaeDiagnostic;
 
 typedef struct PaeReading {
@@ -226,15 +230,20 @@ typedef struct PaeReading {
     uint32_t diagnostics; /* stored diagnostics; from the 1,025th on they are dropped */
 } PaeReading;
 
-/* Reads text_len bytes of text into the lent buffers.
+/* The number of this reader. A landing after which some text, records or card may be answered otherwise
+ * than before raises it: 1 the base, 2 texts in UTF-8, 3 rests of whole bars, 4 groups, beams and figures
+ * closed in a later bar are dropped. Store it beside a reading or a card, to know later what read it. */
+uint32_t pae_version(void);
+
+/* Reads text_len bytes of text into your buffers.
  *
- * notes, bars and figure are lent as words: whole records count, words behind them don't. The figure
- * is scratch: a record for each note of the longest figure (!...!). diagnostics is lent as cells.
+ * notes, bars and figure count in words: whole records are used, words beyond them aren't. The figure
+ * is scratch: a record for each note of the longest figure (!...!). diagnostics counts in cells.
  * Any bytes and any lengths may be given. No pointer may be null, not even for length 0, and no
  * buffer may overlap another or the text. What the buffers held before doesn't matter.
  *
- * Accepted: the first records of notes, bars and diagnostics stand as counted, and every other lent
- * cell is 0, all of the figure included. Refused: every lent cell is 0.
+ * Accepted: the first records of notes, bars and diagnostics stand as counted, and every other cell of
+ * your buffers is 0, all of the figure included. Refused: every cell of your buffers is 0.
  *
  * PAE_MAX_NOTES records each of notes, bars and figure rule out the refusals 8, 11 and 12. A text
  * without = f and i needs at most a note record for each letter A to G and -, a bar record for each /
@@ -285,16 +294,16 @@ typedef struct PaeCardRead {
     uint32_t bars;   /* stored bar records */
 } PaeCardRead;
 
-/* Writes the card of the records into card_len lent bytes; PAE_CARD_BYTES are enough. The records are
+/* Writes the card of the records into your card_len bytes; PAE_CARD_BYTES are enough. The records are
  * all the words of notes and bars: give the counted ones, reading.notes * PAE_NOTE_WORDS and
- * reading.bars * PAE_BAR_WORDS. Every byte behind the card is 0, after a refusal every byte. */
+ * reading.bars * PAE_BAR_WORDS. Every byte after the card is 0, after a refusal every byte. */
 PaeCardWritten pae_write_card(const int32_t *notes, size_t notes_len,
                               const int32_t *bars, size_t bars_len,
                               uint8_t *card, size_t card_len);
 
-/* Reads a card of card_len bytes into the lent records, of which the whole ones count. A note takes at
+/* Reads a card of card_len bytes into your records, of which the whole ones count. A note takes at
  * least 5 bytes and so does a bar, so that card_len / 5 note and card_len / 10 bar records are enough.
- * Every cell behind the counted records is 0, after a refusal every cell. */
+ * Every cell after the counted records is 0, after a refusal every cell. */
 PaeCardRead pae_read_card(const uint8_t *card, size_t card_len,
                           int32_t *notes, size_t notes_len,
                           int32_t *bars, size_t bars_len);

@@ -10,7 +10,7 @@ The whole answer is written as one line: number, place, counts, every word of th
 buffer has and that the others are all 0. The prover computes that line from the definition: each text has a theorem
 `answer text .. ≡ "line"`, proved by `refl`. The theorems stand in target/definitions/, a repository of its own.
 
-The expected line comes from the oracle. The words and refusals that document 01 adds to the Rust are found from the
+The expected line comes from the oracle. The words and refusals that the Rust doesn't have are found from the
 oracle's answers on the text cut behind each token; those for limits 1 and 7 are written out. Of the diagnostic cells
 all are looked at for one text in eight, else the stored ones and 20 more. All short texts, and every blank and every
 edge of UTF-8 at every place, are among them from a count of 9,544 on. A text that differs is cut down to a small one
@@ -327,7 +327,7 @@ def short_texts():
 # more diagnostics than are stored
 MANY = [b"C" + b"?" * 1030]
 
-# ---- document 01: the data and its tokens
+# ---- the data and its tokens
 
 FIELD = re.compile("@([A-Za-z]+):(.*)", re.S)
 TOKEN = re.compile(r"'+|,+|x+|b+|[0-9][0-9.]*|[;=][0-9]*|%%[^%s]{0,3}|\$[xbnA-G\[\]]*|@[0-9/c.+]*|://:|://|//:|//|qq|." % BLANK, re.S)

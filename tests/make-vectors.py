@@ -10,9 +10,9 @@ crates/vectors/README.md has the list's format.
 The texts: every kind of token after every other, in six surroundings; fields, keys, meters, clefs and counts; every
 diagnostic but d10, d17 and d20 with its values; the limits that fit a line; texts written out for one rule each; every
 blank, what is taken for one and characters of two to four bytes, at the places where they matter; random ones. A text
-that the program's buffers, or the words and refusals that document 01 adds to the Rust, would stop isn't taken, nor is
-one with an `=` token or one that closes a group, beam or figure in a later bar, which document 02 reads otherwise than
-the Rust. Only these have d10, d17 and d20.
+that the program's buffers, or the words and refusals that the Rust doesn't have, would stop isn't taken, nor is
+one with an `=` token or one that closes a group, beam or figure in a later bar, which the library reads otherwise than
+the Rust (S-10.2 and section 8 of docs/SPECIFICATION.md). Only these have d10, d17 and d20.
 """
 import argparse
 import os

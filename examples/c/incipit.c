@@ -34,24 +34,24 @@ static uint8_t *standard_input(size_t *length) {
     return text;
 }
 
-static Buffers lend(size_t records) {
-    Buffers lent = {malloc(records * PAE_NOTE_WORDS * sizeof(int32_t)),
+static Buffers allocate(size_t records) {
+    Buffers made = {malloc(records * PAE_NOTE_WORDS * sizeof(int32_t)),
                     malloc(records * PAE_BAR_WORDS * sizeof(int32_t)),
                     malloc(records * PAE_NOTE_WORDS * sizeof(int32_t)), records};
-    if (lent.notes == NULL || lent.bars == NULL || lent.figure == NULL)
+    if (made.notes == NULL || made.bars == NULL || made.figure == NULL)
         out_of_memory();
-    return lent;
+    return made;
 }
 
-static void give_back(Buffers lent) {
-    free(lent.notes);
-    free(lent.bars);
-    free(lent.figure);
+static void release(Buffers made) {
+    free(made.notes);
+    free(made.bars);
+    free(made.figure);
 }
 
-static PaeReading read_into(const uint8_t *text, size_t length, Buffers lent) {
-    return pae_read(text, length, lent.notes, lent.records * PAE_NOTE_WORDS, lent.bars,
-                    lent.records * PAE_BAR_WORDS, lent.figure, lent.records * PAE_NOTE_WORDS,
+static PaeReading read_into(const uint8_t *text, size_t length, Buffers buffers) {
+    return pae_read(text, length, buffers.notes, buffers.records * PAE_NOTE_WORDS, buffers.bars,
+                    buffers.records * PAE_BAR_WORDS, buffers.figure, buffers.records * PAE_NOTE_WORDS,
                     diagnostics, PAE_DIAGNOSTIC_CELLS);
 }
 
@@ -60,16 +60,16 @@ static int wants_more(uint32_t number) {
            number == PAE_REFUSED_BAR_RECORDS;
 }
 
-/* Lends a record for each byte; repeats and rests of whole bars may want more. */
-static PaeReading read_text(const uint8_t *text, size_t length, Buffers *lent) {
+/* With a record for each byte at first; repeats and rests of whole bars may want more. */
+static PaeReading read_text(const uint8_t *text, size_t length, Buffers *buffers) {
     size_t records = length < PAE_MAX_NOTES ? length + 1 : PAE_MAX_NOTES;
     for (;;) {
         PaeReading reading;
-        *lent = lend(records);
-        reading = read_into(text, length, *lent);
+        *buffers = allocate(records);
+        reading = read_into(text, length, *buffers);
         if (!wants_more(reading.number) || records == PAE_MAX_NOTES)
             return reading;
-        give_back(*lent);
+        release(*buffers);
         records = records < PAE_MAX_NOTES / 2 ? 2 * records : PAE_MAX_NOTES;
     }
 }
@@ -77,16 +77,16 @@ static PaeReading read_text(const uint8_t *text, size_t length, Buffers *lent) {
 static const char *refusal_text(uint32_t number) {
     switch (number) {
     case PAE_REFUSED_TOO_LARGE: return "the text is too long";
-    case PAE_REFUSED_DIAGNOSTIC_CELLS: return "too few diagnostic cells are lent";
+    case PAE_REFUSED_DIAGNOSTIC_CELLS: return "too few diagnostic cells";
     case PAE_REFUSED_MALFORMED_UTF8: return "the text is malformed UTF-8";
     case PAE_REFUSED_BLANK: return "the text is blank";
     case PAE_REFUSED_NO_DATA: return "the text has fields, but none is @data:";
     case PAE_REFUSED_TOO_MANY_NOTES: return "too many notes";
-    case PAE_REFUSED_NOTE_RECORDS: return "too few note records are lent";
+    case PAE_REFUSED_NOTE_RECORDS: return "too few note records";
     case PAE_REFUSED_TOO_MANY_PITCHES: return "too many pitches in a chord";
     case PAE_REFUSED_TOO_MANY_MARKS: return "too many marks on a note";
-    case PAE_REFUSED_FIGURE_RECORDS: return "too few figure records are lent";
-    case PAE_REFUSED_BAR_RECORDS: return "too few bar records are lent";
+    case PAE_REFUSED_FIGURE_RECORDS: return "too few figure records";
+    case PAE_REFUSED_BAR_RECORDS: return "too few bar records";
     case PAE_REFUSED_NO_NOTES: return "the data hold no note and no rest";
     default: return "a refusal of another version";
     }
@@ -152,14 +152,14 @@ static void print_bar(const int32_t *bar, unsigned number) {
     putchar('\n');
 }
 
-static void print_bars(PaeReading reading, Buffers lent) {
+static void print_bars(PaeReading reading, Buffers buffers) {
     uint32_t i;
     for (i = 0; i < reading.bars; i++) {
-        const int32_t *bar = lent.bars + (size_t)i * PAE_BAR_WORDS;
+        const int32_t *bar = buffers.bars + (size_t)i * PAE_BAR_WORDS;
         int32_t j;
         print_bar(bar, (unsigned)i + 1);
         for (j = 0; j < bar[PAE_BAR_NOTE_COUNT]; j++)
-            print_note(lent.notes + (size_t)(bar[PAE_BAR_FIRST_NOTE] + j) * PAE_NOTE_WORDS);
+            print_note(buffers.notes + (size_t)(bar[PAE_BAR_FIRST_NOTE] + j) * PAE_NOTE_WORDS);
     }
 }
 
@@ -182,45 +182,45 @@ static void print_bytes(const uint8_t *bytes, uint32_t count) {
 }
 
 /* Whether the card reads to these records. A bar has a note, so that bars are no more than notes. */
-static int reads_back(const uint8_t *card, size_t length, PaeReading reading, Buffers lent) {
-    Buffers back = lend(reading.notes);
+static int reads_back(const uint8_t *card, size_t length, PaeReading reading, Buffers buffers) {
+    Buffers back = allocate(reading.notes);
     size_t note_words = reading.notes * (size_t)PAE_NOTE_WORDS;
     size_t bar_words = reading.bars * (size_t)PAE_BAR_WORDS;
     PaeCardRead got = pae_read_card(card, length, back.notes, note_words, back.bars, bar_words);
     int same = got.number == PAE_ACCEPTED && got.notes == reading.notes && got.bars == reading.bars &&
-               memcmp(back.notes, lent.notes, note_words * sizeof(int32_t)) == 0 &&
-               memcmp(back.bars, lent.bars, bar_words * sizeof(int32_t)) == 0;
-    give_back(back);
+               memcmp(back.notes, buffers.notes, note_words * sizeof(int32_t)) == 0 &&
+               memcmp(back.bars, buffers.bars, bar_words * sizeof(int32_t)) == 0;
+    release(back);
     return same;
 }
 
-static void print_card(PaeReading reading, Buffers lent) {
+static void print_card(PaeReading reading, Buffers buffers) {
     size_t size = PAE_CARD_BYTES(reading.notes, reading.bars);
     uint8_t *card = malloc(size);
     PaeCardWritten written;
     if (card == NULL)
         out_of_memory();
-    written = pae_write_card(lent.notes, reading.notes * (size_t)PAE_NOTE_WORDS, lent.bars,
+    written = pae_write_card(buffers.notes, reading.notes * (size_t)PAE_NOTE_WORDS, buffers.bars,
                              reading.bars * (size_t)PAE_BAR_WORDS, card, size);
     printf("card: %u bytes, read back %s\n", (unsigned)written.length,
-           reads_back(card, written.length, reading, lent) ? "the same" : "otherwise");
+           reads_back(card, written.length, reading, buffers) ? "the same" : "otherwise");
     if (written.length <= SHORT_CARD)
         print_bytes(card, written.length);
     free(card);
 }
 
 static int print_reading(const uint8_t *text, size_t length) {
-    Buffers lent;
-    PaeReading reading = read_text(text, length, &lent);
+    Buffers buffers;
+    PaeReading reading = read_text(text, length, &buffers);
     uint32_t i;
     if (reading.number != PAE_ACCEPTED)
         print_refusal(reading);
-    print_bars(reading, lent);
+    print_bars(reading, buffers);
     for (i = 0; i < reading.diagnostics; i++)
         print_diagnostic(diagnostics[i], text);
     if (reading.number == PAE_ACCEPTED)
-        print_card(reading, lent);
-    give_back(lent);
+        print_card(reading, buffers);
+    release(buffers);
     return reading.number == PAE_ACCEPTED ? 0 : 1;
 }
 

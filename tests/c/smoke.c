@@ -1,5 +1,5 @@
-/* The library from C: the thirteen proved lines, rests of whole bars, groups over bars, characters beyond
- * ASCII, refusals over poisoned buffers, little lent, and cards written and read back. */
+/* The library from C: its number, the thirteen proved lines, rests of whole bars, groups over bars,
+ * characters beyond ASCII, refusals over poisoned buffers, little room, and cards written and read back. */
 #include "pae.h"
 
 #include <stdio.h>
@@ -434,6 +434,7 @@ static void bytes_of_no_card(void) {
 }
 
 int main(void) {
+    CHECK(pae_version() == 4);
     accidentals();
     rhythm();
     chords_and_figures();

@@ -19,8 +19,9 @@ fn card_and_back(text: &[u8]) -> Result<String, Box<dyn Error>> {
     let card = read(text)?.to_card()?;
     let back = Reading::from_card(&card)?;
     let (bytes, notes, bars) = (card.len(), back.notes.len(), back.bars.len());
-    let digits: String = card.iter().map(|byte| format!("{byte:02x}")).collect();
+    let digits: Vec<String> = card.iter().map(|byte| format!("{byte:02x}")).collect();
     Ok(format!(
-        "{digits}\n{bytes} bytes, notes: {notes}, bars: {bars}"
+        "{}\n{bytes} bytes, notes: {notes}, bars: {bars}",
+        digits.concat()
     ))
 }

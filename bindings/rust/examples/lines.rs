@@ -42,7 +42,7 @@ fn bar_text(reading: &Reading, bar: &Bar) -> String {
     format!("{left}{}{right}", notes.collect::<String>())
 }
 
-/// The pitches, `-` for a rest, and behind a colon the length; `=` for a rest of the whole bar.
+/// The pitches, `-` for a rest, and after a colon the length; `=` for a rest of the whole bar.
 fn note_text(note: &Note) -> String {
     let pitches: Vec<String> = note.pitches.iter().map(ToString::to_string).collect();
     let sign = match note.kind {
@@ -51,6 +51,7 @@ fn note_text(note: &Note) -> String {
         NoteKind::Grace => "q",
         NoteKind::SlashedGrace => "g",
         NoteKind::WholeBarRest => "=",
+        _ => "?",
     };
     let length = note.duration.map_or(String::new(), length);
     let dots = ".".repeat(note.dot_count.into());

@@ -54,22 +54,10 @@ fn bar_line(bar: &Bar, number: usize) -> String {
     format!("bar {number}{clef}{key}{meter}\n")
 }
 
-/// The kind, the pitches and the length, if it has one, and which sign stands at the note's place.
+/// The note, and which sign stands at its place.
 fn note_line(note: &Note, signs: &[char]) -> String {
-    let pitches: String = note
-        .pitches
-        .iter()
-        .map(|pitch| format!(" {pitch}"))
-        .collect();
-    let length = note
-        .duration
-        .map_or(String::new(), |duration| format!(" {duration:?}"));
-    let dots = ".".repeat(note.dot_count.into());
-    let at = note.place as usize - 1;
-    format!(
-        "  {:?}{pitches}{length}{dots}, from {} at place {}\n",
-        note.kind, signs[at], note.place
-    )
+    let sign = signs[note.place as usize - 1];
+    format!("  {note}, from {sign} at place {}\n", note.place)
 }
 
 fn diagnostic_line(found: &Diagnostic, text: &str) -> String {

@@ -1,10 +1,11 @@
 //! Catalogue cards: notes and bars as bytes, to be stored and read back.
 
+use crate::bar::Bar;
+use crate::buffers::{Records, first};
 use crate::card_error::CardError;
 use crate::ffi;
-use crate::lent::{Lent, first};
 use crate::limits::MAX_NOTES;
-use crate::model::{Bar, Note};
+use crate::note::Note;
 use crate::owned::Reading;
 use crate::words::{BAR_WORDS, BarWords, NOTE_WORDS, NoteWords};
 
@@ -24,15 +25,16 @@ const MIN_BAR_BYTES: usize = 5;
 const MIN_NOTE_BYTES: usize = 5;
 
 /// The most bytes of a card with so many notes and bars.
+#[must_use]
 pub const fn max_card_bytes(notes: usize, bars: usize) -> usize {
     let bars = bars.saturating_mul(MAX_BAR_BYTES);
     let notes = notes.saturating_mul(MAX_NOTE_BYTES);
     FRONT_BYTES.saturating_add(bars).saturating_add(notes)
 }
 
-/// Writes the card of all these notes and bars into lent bytes, allocates nothing and hands back
-/// the bytes of the card. Every lent byte behind them is 0 afterwards; after a refusal all are.
-/// [`max_card_bytes`] of them are enough.
+/// Writes the card of all these notes and bars into your buffer `card`, allocates nothing and hands
+/// back the bytes of the card. Every byte after them is 0 afterwards; after a refusal all are.
+/// [`max_card_bytes`] are enough.
 ///
 /// ```
 /// use urthmoli::words::{BAR_WORDS, NOTE_WORDS, bar, note};
@@ -50,6 +52,11 @@ pub const fn max_card_bytes(notes: usize, bars: usize) -> usize {
 /// assert_eq!(card, [1, 1, 0, 0, 0, 0, 1, 0, 0, 0, 1, 3, 0, 0, 1]);
 /// # Ok::<(), urthmoli::CardError>(())
 /// ```
+///
+/// # Errors
+///
+/// [`CardError::NotRecords`] where no card holds these, else [`CardError::CardRoom`] where theirs
+/// doesn't fit.
 pub fn write_card_into<'a>(
     notes: &[NoteWords],
     bars: &[BarWords],
@@ -62,8 +69,8 @@ pub fn write_card_into<'a>(
     }
 }
 
-/// Reads a card into lent records and allocates nothing. The card has no diagnostics. Every lent
-/// cell that isn't handed back is 0 afterwards; after a refusal all are.
+/// Reads a card into your buffers and allocates nothing. The card has no diagnostics. Every cell
+/// of the buffers that isn't handed back is 0 afterwards; after a refusal all are.
 ///
 /// ```
 /// use urthmoli::words::{BAR_WORDS, NOTE_WORDS, note};
@@ -72,19 +79,24 @@ pub fn write_card_into<'a>(
 /// let card = [1, 1, 0, 0, 0, 0, 1, 0, 0, 0, 1, 3, 0, 0, 1];
 /// let mut notes = [[0; NOTE_WORDS]; 16];
 /// let mut bars = [[0; BAR_WORDS]; 4];
-/// let lent = read_card_into(&card, &mut notes, &mut bars)?;
-/// assert_eq!((lent.notes.len(), lent.bars.len()), (1, 1));
-/// assert_eq!(lent.notes[0][note::KIND], NoteKind::Rest.word());
+/// let records = read_card_into(&card, &mut notes, &mut bars)?;
+/// assert_eq!((records.notes.len(), records.bars.len()), (1, 1));
+/// assert_eq!(records.notes[0][note::KIND], NoteKind::Rest.word());
 /// # Ok::<(), urthmoli::CardError>(())
 /// ```
+///
+/// # Errors
+///
+/// [`CardError::NotACard`] where the bytes are none, else [`CardError::RecordRoom`] where what they
+/// hold doesn't fit.
 pub fn read_card_into<'a>(
     card: &[u8],
     notes: &'a mut [NoteWords],
     bars: &'a mut [BarWords],
-) -> Result<Lent<'a>, CardError> {
+) -> Result<Records<'a>, CardError> {
     let answer = ffi::read_card(card, notes.as_flattened_mut(), bars.as_flattened_mut());
     match answer.number {
-        0 => Ok(Lent {
+        0 => Ok(Records {
             notes: first(notes, answer.notes),
             bars: first(bars, answer.bars),
             diagnostics: &[],
@@ -97,9 +109,12 @@ impl Reading {
     /// The card of the notes and bars: [`from_card`](Self::from_card) makes them again from it. The
     /// diagnostics are no part of it.
     ///
-    /// What a text or a card reads to always has one. A reading put together or changed by hand may
-    /// hold what no card does, as a place of 0 or a bar without notes; it is
-    /// [refused](CardError::NotRecords).
+    /// What a text or a card reads to always has one.
+    ///
+    /// # Errors
+    ///
+    /// [`CardError::NotRecords`]: a reading put together or changed by hand may hold what no card
+    /// does, as a place of 0 or a bar without notes.
     pub fn to_card(&self) -> Result<Vec<u8>, CardError> {
         let notes = all(&self.notes, Note::to_words)?;
         let bars = all(&self.bars, Bar::to_words)?;
@@ -107,15 +122,18 @@ impl Reading {
         Ok(write_card_into(&notes, &bars, &mut bytes)?.to_vec())
     }
 
-    /// The notes and bars whose card it is; the diagnostics are empty, as no card has any. Any bytes
-    /// may be given. It never panics, and refuses only what is [no card](CardError::NotACard), never
-    /// for want of room.
+    /// The notes and bars whose card it is, places included; the diagnostics are empty, as no card
+    /// has any. Any bytes may be given. It never panics, and never refuses for want of room.
+    ///
+    /// # Errors
+    ///
+    /// [`CardError::NotACard`] where the bytes are no card.
     pub fn from_card(card: impl AsRef<[u8]>) -> Result<Self, CardError> {
         let card = card.as_ref();
         let mut notes = vec![[0; NOTE_WORDS]; most_notes(card)];
         let mut bars = vec![[0; BAR_WORDS]; most_bars(card)];
-        let lent = read_card_into(card, &mut notes, &mut bars)?;
-        Ok(Self::from_lent(&lent, &[])?)
+        let records = read_card_into(card, &mut notes, &mut bars)?;
+        Ok(Self::from_records(&records, &[])?)
     }
 }
 

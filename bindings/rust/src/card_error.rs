@@ -5,16 +5,17 @@ use std::error::Error;
 use std::fmt;
 
 /// Why a card isn't written or read. 15 is given only where 14 isn't.
-#[derive(Clone, Copy, Debug, PartialEq, Eq)]
+#[derive(Clone, Copy, Debug, PartialEq, Eq, Hash)]
+#[non_exhaustive]
 pub enum CardError {
     /// 14 of the writer: the notes and bars are not such as a card holds.
     NotRecords,
     /// 14 of the reader: the bytes are not those of a card.
     NotACard,
-    /// 15 of the writer: the card passes the lent bytes; never from
+    /// 15 of the writer: the card doesn't fit its buffer; never from
     /// [`Reading::to_card`](crate::Reading::to_card).
     CardRoom,
-    /// 15 of the reader: the notes or bars pass the lent records; never from
+    /// 15 of the reader: the notes or bars don't fit their buffers; never from
     /// [`Reading::from_card`](crate::Reading::from_card).
     RecordRoom,
     /// Not the library's: crate and library don't belong together.
@@ -41,6 +42,7 @@ impl CardError {
     }
 
     /// The refusal's number, 14 or 15.
+    #[must_use]
     pub fn number(&self) -> Option<u32> {
         match self {
             Self::NotRecords | Self::NotACard => Some(14),
@@ -53,8 +55,8 @@ impl CardError {
         match self {
             Self::NotRecords => f.write_str("the notes and bars are not such as a card holds"),
             Self::NotACard => f.write_str("the bytes are not those of a card"),
-            Self::CardRoom => f.write_str("the card passes the lent bytes"),
-            Self::RecordRoom => f.write_str("the card's notes or bars pass the lent records"),
+            Self::CardRoom => f.write_str("the card doesn't fit its buffer"),
+            Self::RecordRoom => f.write_str("the card's notes or bars don't fit their buffers"),
             Self::Unknown(unknown) => write!(f, "{unknown}"),
         }
     }

@@ -7,12 +7,13 @@ use std::ops::Range;
 
 words_enum! {
     /// What a diagnostic is about, numbered d1 to d20. Several may share one code.
+    #[non_exhaustive]
     DiagnosticKind, "diagnostic" {
         /// d1: in field form, a line that is no field; the value is the line.
         UnsupportedLine = 1,
         /// d2: a field other than clef, keysig, timesig and data.
         UnsupportedField = 2,
-        /// d3: a clef, key or meter behind a note of its bar; it isn't taken.
+        /// d3: a clef, key or meter after a note of its bar; it isn't taken.
         MidMeasureChange = 3,
         /// d4: a mensural clef (`+`), read as a modern one.
         MensuralClef = 4,
@@ -54,6 +55,7 @@ words_enum! {
 
 impl DiagnosticKind {
     /// The stable code, as in acorde.
+    #[must_use]
     pub fn code(self) -> &'static str {
         match self {
             Self::UnsupportedLine => "pae.unsupported-line",
@@ -79,6 +81,7 @@ impl DiagnosticKind {
     }
 
     /// The reason in words, as in acorde but for d10 and d17: acorde's say 'crossing a barline'.
+    #[must_use]
     pub fn reason(self) -> &'static str {
         match self {
             Self::UnsupportedLine => "line is not a PAE field",
@@ -111,7 +114,7 @@ impl DiagnosticKind {
 
 /// Where a diagnostic belongs. Displayed as acorde's locations: `/line/2`, `/line/2/field/title`
 /// or `/data/5`.
-#[derive(Clone, Debug, PartialEq, Eq)]
+#[derive(Clone, Debug, PartialEq, Eq, Hash)]
 pub enum Position {
     /// A line of the text, from 1.
     Line(u32),
@@ -152,7 +155,7 @@ impl fmt::Display for Position {
 }
 
 /// The key of the field whose value the cell holds: it stands between the first `@` of the value's
-/// line and the `:` behind it.
+/// line and the `:` after it.
 fn field_key(cell: &DiagnosticCell, text: &[u8]) -> String {
     let key = cell
         .span()
@@ -172,8 +175,8 @@ fn value(cell: &DiagnosticCell, text: &[u8]) -> Result<String, UnknownWord> {
     }
 }
 
-/// A report about the text; all are warnings.
-#[derive(Clone, Debug, PartialEq, Eq)]
+/// A report about the text; all are warnings. Two are equal only where they stand at the same place.
+#[derive(Clone, Debug, PartialEq, Eq, Hash)]
 pub struct Diagnostic {
     /// What it is about.
     pub kind: DiagnosticKind,
@@ -205,6 +208,10 @@ impl fmt::Display for Diagnostic {
 
 impl Diagnostic {
     /// What a cell stored by a reading of `text` stands for.
+    ///
+    /// # Errors
+    ///
+    /// A word to which this crate gives no meaning.
     pub fn from_cell(cell: &DiagnosticCell, text: &[u8]) -> Result<Self, UnknownWord> {
         Ok(Self {
             kind: DiagnosticKind::from_word(cell.number)?,

@@ -1,4 +1,4 @@
-//! The library's three functions.
+//! The library's functions.
 
 use crate::words::DiagnosticCell;
 
@@ -28,6 +28,9 @@ pub struct CardRead {
 }
 
 unsafe extern "C" {
+    /// The reader's number.
+    pub safe fn pae_version() -> u32;
+
     fn pae_read(
         text: *const u8,
         text_len: usize,
@@ -60,7 +63,7 @@ unsafe extern "C" {
     ) -> CardRead;
 }
 
-/// Reads `text` into the lent slices.
+/// Reads `text` into the slices.
 pub fn read(
     text: &[u8],
     notes: &mut [i32],
@@ -88,7 +91,7 @@ pub fn read(
     }
 }
 
-/// Writes the card of the records into the lent slice.
+/// Writes the card of the records into the slice `card`.
 pub fn write_card(notes: &[i32], bars: &[i32], card: &mut [u8]) -> CardWritten {
     // SAFETY: as in `read`; every value of a `u8` is a value that the function may write.
     unsafe {
@@ -103,7 +106,7 @@ pub fn write_card(notes: &[i32], bars: &[i32], card: &mut [u8]) -> CardWritten {
     }
 }
 
-/// Reads `card` into the lent slices.
+/// Reads `card` into the slices.
 pub fn read_card(card: &[u8], notes: &mut [i32], bars: &mut [i32]) -> CardRead {
     // SAFETY: as in `read`.
     unsafe {

@@ -46,13 +46,26 @@
 //!
 //! The span of a diagnostic counts bytes: `&text[span]` is its value.
 //!
-//! [`read_into`] does the same over lent buffers and allocates nothing.
+//! [`read_into`] does the same over your buffers and allocates nothing.
+//!
+//! # Equality
+//!
+//! Pitches, notes and bars are equal where the music is, wherever it stands in its text: a [`Pitch`]
+//! is letter, octave and alteration, and a [`Note`] leaves its places and its bar's number out of
+//! `==` and `Hash`, so that they can be keys of a map. The example `group` joins openings that way.
+//!
+//! ```
+//! let (tight, wide) = (urthmoli::read("''C,D")?, urthmoli::read("''C / ,nD")?);
+//! assert_eq!(tight.notes, wide.notes);
+//! assert_eq!((tight.notes[1].place, wide.notes[1].place), (5, 9));
+//! # Ok::<(), urthmoli::Refusal>(())
+//! ```
 //!
 //! # Catalogue cards
 //!
 //! [`Reading::to_card`] makes a card of a reading's notes and bars, a short run of bytes to be stored
 //! beside the shelf mark; [`Reading::from_card`] makes the same notes and bars of it again. The text
-//! and its diagnostics are no part of a card. The repository's docs/CARD.md has the bytes.
+//! and its diagnostics are no part of a card. CARD.md in the package has the bytes.
 //!
 //! ```
 //! use urthmoli::{CardError, Reading};
@@ -61,43 +74,59 @@
 //! let card = reading.to_card()?;
 //! assert_eq!(card.len(), 37);
 //! let again = Reading::from_card(&card)?;
-//! assert_eq!((again.notes, again.bars), (reading.notes, reading.bars));
+//! assert_eq!((&again.notes, &again.bars), (&reading.notes, &reading.bars));
+//! assert_eq!(again.notes[1].to_words(), reading.notes[1].to_words()); // places too
 //!
 //! let cut = Reading::from_card(&card[..36]);
 //! assert_eq!(cut, Err(CardError::NotACard));
 //! # Ok::<(), Box<dyn std::error::Error>>(())
 //! ```
 //!
-//! [`write_card_into`] and [`read_card_into`] do so over lent records and bytes and allocate nothing.
+//! [`write_card_into`] and [`read_card_into`] do so over your records and bytes and allocate nothing.
+//!
+//! # Threads
+//!
+//! Nothing is kept between calls, so that any number of threads may call at once. The library takes
+//! less than 32 KB of the caller's stack.
 
 #![deny(missing_docs, unsafe_code)]
 
+mod bar;
+mod buffers;
 mod card;
 mod card_error;
 mod diagnostic;
-#[allow(unsafe_code)]
+mod duration;
+#[allow(unsafe_code, reason = "it calls the library")]
 mod ffi;
-mod lent;
 mod limits;
 mod list;
-mod model;
+mod note;
 mod owned;
+mod pitch;
 mod refusal;
+mod version;
 mod word;
 pub mod words;
 
+pub use bar::{Bar, Barline, Clef, KeySignature, TimeSignature, TimeSymbol};
+pub use buffers::{Buffers, Records, read_into};
 pub use card::{max_card_bytes, read_card_into, write_card_into};
 pub use card_error::CardError;
 pub use diagnostic::{Diagnostic, DiagnosticKind, Position};
-pub use lent::{Buffers, Lent, read_into};
+pub use duration::Duration;
 pub use limits::{
     DIAGNOSTIC_CELLS, MAX_MARKS, MAX_NOTES, MAX_PITCHES, MAX_TEXT_BYTES, MAX_WHOLE_BARS,
 };
 pub use list::List;
-pub use model::{
-    Articulation, Bar, Barline, BeamState, Clef, Duration, KeySignature, Note, NoteKind, Pitch,
-    Step, Ties, TimeSignature, TimeSymbol, TupletInfo,
-};
+pub use note::{Articulation, BeamState, Note, NoteKind, Ties, TupletInfo};
 pub use owned::{Reading, read};
+pub use pitch::{Pitch, Step};
 pub use refusal::Refusal;
+pub use version::version;
 pub use word::UnknownWord;
+
+/// The README's example is run.
+#[cfg(doctest)]
+#[doc = include_str!("../README.md")]
+struct Readme;

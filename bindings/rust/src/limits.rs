@@ -15,5 +15,5 @@ pub const MAX_PITCHES: usize = 8;
 /// The most marks of one note.
 pub const MAX_MARKS: usize = 8;
 
-/// The fewest diagnostic cells that may be lent, and the most diagnostics that are stored.
+/// The fewest diagnostic cells that a buffer may have, and the most diagnostics that are stored.
 pub const DIAGNOSTIC_CELLS: usize = 1_024;

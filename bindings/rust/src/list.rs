@@ -1,10 +1,11 @@
 //! A short list without allocation.
 
 use std::fmt;
+use std::hash::{Hash, Hasher};
 use std::ops::Deref;
 use std::slice;
 
-/// At most `N` values, held in place; it is used as a slice.
+/// At most `N` values, held in place; it is used as a slice, and equal where the slices are.
 #[derive(Clone, Copy)]
 pub struct List<T, const N: usize> {
     cells: [T; N],
@@ -51,6 +52,12 @@ impl<T: PartialEq, const N: usize> PartialEq for List<T, N> {
 }
 
 impl<T: Eq, const N: usize> Eq for List<T, N> {}
+
+impl<T: Hash, const N: usize> Hash for List<T, N> {
+    fn hash<H: Hasher>(&self, state: &mut H) {
+        (**self).hash(state);
+    }
+}
 
 impl<T: fmt::Debug, const N: usize> fmt::Debug for List<T, N> {
     fn fmt(&self, f: &mut fmt::Formatter<'_>) -> fmt::Result {

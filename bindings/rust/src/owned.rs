@@ -1,15 +1,20 @@
 //! Reading into owned values.
 
+use crate::bar::Bar;
+use crate::buffers::{Buffers, Records, read_into};
 use crate::diagnostic::Diagnostic;
-use crate::lent::{Buffers, Lent, read_into};
 use crate::limits::{DIAGNOSTIC_CELLS, MAX_NOTES};
-use crate::model::{Bar, Note};
+use crate::note::Note;
 use crate::refusal::Refusal;
 use crate::word::UnknownWord;
 use crate::words::{BAR_WORDS, DiagnosticCell, NOTE_WORDS};
 
 /// What a text or a card reads to.
-#[derive(Clone, Debug, PartialEq, Eq)]
+///
+/// Two readings are equal where their notes, bars and diagnostics are. Where a [`Note`] stands in
+/// its text doesn't matter to that, where a [`Diagnostic`] stands does; to leave the diagnostics
+/// out, compare `notes` and `bars`.
+#[derive(Clone, Debug, PartialEq, Eq, Hash)]
 pub struct Reading {
     /// The notes and rests of all bars.
     pub notes: Vec<Note>,
@@ -22,6 +27,7 @@ pub struct Reading {
 
 impl Reading {
     /// The notes of one of this reading's bars.
+    #[must_use]
     pub fn notes_of(&self, bar: &Bar) -> &[Note] {
         self.notes
             .get(bar.first_note..)
@@ -29,11 +35,12 @@ impl Reading {
             .unwrap_or_default()
     }
 
-    pub(crate) fn from_lent(lent: &Lent<'_>, text: &[u8]) -> Result<Self, UnknownWord> {
+    pub(crate) fn from_records(records: &Records<'_>, text: &[u8]) -> Result<Self, UnknownWord> {
+        let diagnostic = |cell: &_| Diagnostic::from_cell(cell, text);
         Ok(Self {
-            notes: each(lent.notes, Note::from_words)?,
-            bars: each(lent.bars, Bar::from_words)?,
-            diagnostics: each(lent.diagnostics, |cell| Diagnostic::from_cell(cell, text))?,
+            notes: each(records.notes, Note::from_words)?,
+            bars: each(records.bars, Bar::from_words)?,
+            diagnostics: each(records.diagnostics, diagnostic)?,
         })
     }
 }
@@ -48,12 +55,16 @@ fn each<R, T>(
 /// Reads a text in UTF-8: bare data, or fields one to a line. It never panics, and refuses only what
 /// the reader itself can't read, never for want of room. Any bytes may be given; a `&str` or
 /// `String` is never refused as [malformed](Refusal::MalformedUtf8).
+///
+/// # Errors
+///
+/// The [`Refusal`] of what can't be read, with its place.
 pub fn read(text: impl AsRef<[u8]>) -> Result<Reading, Refusal> {
     let text = text.as_ref();
     read_growing(text, Room::for_text(text))
 }
 
-/// The numbers of records to lend.
+/// The numbers of records in the buffers.
 #[derive(Clone, Copy)]
 struct Room {
     notes: usize,
@@ -120,19 +131,26 @@ fn read_within(text: &[u8], room: Room) -> Result<Reading, Refusal> {
         figure: &mut vec![[0; NOTE_WORDS]; room.figure],
         diagnostics: &mut vec![DiagnosticCell::default(); DIAGNOSTIC_CELLS],
     };
-    let lent = read_into(text, buffers)?;
-    Ok(Reading::from_lent(&lent, text)?)
+    let records = read_into(text, buffers)?;
+    Ok(Reading::from_records(&records, text)?)
 }
 
 #[cfg(test)]
 mod tests {
     use super::*;
+    use crate::words::NoteWords;
 
     const NONE: Room = Room {
         notes: 0,
         bars: 0,
         figure: 0,
     };
+
+    /// The words of the notes, places included.
+    fn words(reading: &Reading) -> Vec<NoteWords> {
+        let words = reading.notes.iter().map(Note::to_words);
+        words.collect::<Option<_>>().unwrap()
+    }
 
     /// Notes, bars and the longest figure all beyond 8.
     const LONG: &str = "!CDEFGABCDEFG!f/C/C/C/C/C/C/C/C/C/i";
@@ -141,7 +159,9 @@ mod tests {
     fn too_little_room_grows() {
         let reading = read_growing(LONG.as_bytes(), NONE).unwrap();
         assert_eq!((reading.notes.len(), reading.bars.len()), (34, 11));
-        assert_eq!(reading, read(LONG).unwrap());
+        let ample = read(LONG).unwrap();
+        assert_eq!(words(&reading), words(&ample));
+        assert_eq!(reading, ample);
     }
 
     #[test]

@@ -7,17 +7,19 @@ use std::error::Error;
 use std::fmt;
 
 /// Why a text isn't read. A `place` is that of the token in the data, in characters from 1.
-#[derive(Clone, Copy, Debug, PartialEq, Eq)]
+#[derive(Clone, Copy, Debug, PartialEq, Eq, Hash)]
+#[non_exhaustive]
 pub enum Refusal {
     /// 1: the text is over [`MAX_TEXT_BYTES`].
     TooLarge {
         /// The text's length in bytes.
         length: usize,
     },
-    /// 2: fewer than [`DIAGNOSTIC_CELLS`] are lent; never from [`read`](crate::read).
+    /// 2: the diagnostics' buffer has fewer than [`DIAGNOSTIC_CELLS`]; never from
+    /// [`read`](crate::read).
     DiagnosticCells {
-        /// The number of lent cells.
-        lent: usize,
+        /// The number of its cells.
+        cells: usize,
     },
     /// 3: the text is malformed UTF-8; never of a `&str` or `String`.
     MalformedUtf8 {
@@ -34,7 +36,7 @@ pub enum Refusal {
         /// The place of the token that would store them.
         place: u32,
     },
-    /// 8: the notes would pass the lent records; never from [`read`](crate::read).
+    /// 8: the notes don't fit their buffer; never from [`read`](crate::read).
     NoteRecords {
         /// The place of the token that would store them.
         place: u32,
@@ -49,12 +51,12 @@ pub enum Refusal {
         /// The place of the `t` or `)` that would add the mark.
         place: u32,
     },
-    /// 11: a figure passes the lent records; never from [`read`](crate::read).
+    /// 11: a figure doesn't fit its buffer; never from [`read`](crate::read).
     FigureRecords {
         /// The place of the closing `!`.
         place: u32,
     },
-    /// 12: the bars would pass the lent records; never from [`read`](crate::read).
+    /// 12: the bars don't fit their buffer; never from [`read`](crate::read).
     BarRecords {
         /// The place of the barline, or of the `=` that has it; at the data's end, its length in
         /// characters plus 1.
@@ -67,12 +69,12 @@ pub enum Refusal {
 }
 
 impl Refusal {
-    /// The refusal that `answer` tells of `text` and `lent` diagnostic cells.
-    pub(crate) fn from_answer(answer: &Answer, text: &[u8], lent: usize) -> Self {
+    /// The refusal that `answer` tells of `text` and so many diagnostic `cells`.
+    pub(crate) fn from_answer(answer: &Answer, text: &[u8], cells: usize) -> Self {
         let place = answer.place;
         match answer.number {
             1 => Self::TooLarge { length: text.len() },
-            2 => Self::DiagnosticCells { lent },
+            2 => Self::DiagnosticCells { cells },
             3 => Self::MalformedUtf8 {
                 offset: well_formed_bytes(text),
             },
@@ -90,6 +92,7 @@ impl Refusal {
     }
 
     /// The refusal's number, 1 to 13; 6 isn't given.
+    #[must_use]
     pub fn number(&self) -> Option<u32> {
         Some(match self {
             Self::TooLarge { .. } => 1,
@@ -109,6 +112,7 @@ impl Refusal {
     }
 
     /// The place in the data, in characters from 1, where the refusal has one.
+    #[must_use]
     pub fn place(&self) -> Option<u32> {
         match *self {
             Self::TooManyNotes { place }
@@ -132,10 +136,10 @@ impl Refusal {
             Self::TooLarge { length } => {
                 write!(f, "the text has {length} bytes, over {MAX_TEXT_BYTES}")
             }
-            Self::DiagnosticCells { lent } => {
+            Self::DiagnosticCells { cells } => {
                 write!(
                     f,
-                    "{lent} diagnostic cells are lent, under {DIAGNOSTIC_CELLS}"
+                    "the buffer has {cells} diagnostic cells, under {DIAGNOSTIC_CELLS}"
                 )
             }
             Self::MalformedUtf8 { offset } => {
@@ -147,11 +151,11 @@ impl Refusal {
             Self::Blank => f.write_str("the text is blank"),
             Self::NoData => f.write_str("the text has fields, but none is @data:"),
             Self::TooManyNotes { .. } => write!(f, "the notes pass {MAX_NOTES}"),
-            Self::NoteRecords { .. } => f.write_str("the notes pass the lent note records"),
+            Self::NoteRecords { .. } => f.write_str("the notes don't fit their buffer"),
             Self::TooManyPitches { .. } => write!(f, "the chord passes {MAX_PITCHES} pitches"),
             Self::TooManyMarks { .. } => write!(f, "the note's marks pass {MAX_MARKS}"),
-            Self::FigureRecords { .. } => f.write_str("the figure passes the lent figure records"),
-            Self::BarRecords { .. } => f.write_str("the bars pass the lent bar records"),
+            Self::FigureRecords { .. } => f.write_str("the figure doesn't fit its buffer"),
+            Self::BarRecords { .. } => f.write_str("the bars don't fit their buffer"),
             Self::NoNotes => f.write_str("the data hold no note and no rest"),
             Self::Unknown(unknown) => write!(f, "{unknown}"),
         }

@@ -5,7 +5,7 @@ use std::fmt;
 
 /// A word to which this crate gives no meaning. The reader is proved to store none, so this tells
 /// that library and crate are of different versions.
-#[derive(Clone, Copy, Debug, PartialEq, Eq)]
+#[derive(Clone, Copy, Debug, PartialEq, Eq, Hash)]
 pub struct UnknownWord {
     /// What the word should have been.
     pub what: &'static str,
@@ -73,6 +73,10 @@ macro_rules! words_enum {
 
         impl $name {
             /// What `word` stands for.
+            ///
+            /// # Errors
+            ///
+            /// A word that stands for none of them.
             pub fn from_word(word: i32) -> Result<Self, $crate::UnknownWord> {
                 match word {
                     $($word => Ok(Self::$case),)+
@@ -81,6 +85,7 @@ macro_rules! words_enum {
             }
 
             /// The word that stands for it in a record.
+            #[must_use]
             pub fn word(self) -> i32 {
                 self as i32
             }

@@ -20,7 +20,7 @@ pub type BarWords = [i32; BAR_WORDS];
 
 /// A diagnostic as the reader stores it.
 #[repr(C)]
-#[derive(Clone, Copy, Debug, Default, PartialEq, Eq)]
+#[derive(Clone, Copy, Debug, Default, PartialEq, Eq, Hash)]
 pub struct DiagnosticCell {
     /// Its number, see [`DiagnosticKind`](crate::DiagnosticKind); 0 in a cell that holds none.
     pub number: i32,
@@ -32,12 +32,13 @@ pub struct DiagnosticCell {
     pub value_kind: i32,
     /// The offset in bytes, from 0, of the value in the text, or the number.
     pub start: i32,
-    /// The offset in bytes behind the value in the text.
+    /// The offset in bytes where the value ends in the text.
     pub end: i32,
 }
 
 impl DiagnosticCell {
     /// The bytes of the text that are the value, if the value is a part of it.
+    #[must_use]
     pub fn span(&self) -> Option<Range<usize>> {
         let start = usize::try_from(self.start).ok()?;
         let end = usize::try_from(self.end).ok()?;
@@ -45,6 +46,7 @@ impl DiagnosticCell {
     }
 
     /// The part of the text that was read which is the value, if the value is one.
+    #[must_use]
     pub fn part<'t>(&self, text: &'t [u8]) -> Option<&'t [u8]> {
         text.get(self.span()?)
     }

@@ -1,10 +1,13 @@
 //! Cards of random texts and of random records, and random bytes.
 
 mod common;
+mod exact;
 mod laid_out;
+mod numbers;
 
-use common::{Random, accented};
+use common::accented;
 use laid_out::comes_back;
+use numbers::Random;
 use urthmoli::words::{BAR_WORDS, BarWords, DiagnosticCell, NOTE_WORDS, NoteWords, bar, note};
 use urthmoli::{
     Bar, Buffers, CardError, DIAGNOSTIC_CELLS, Note, Reading, max_card_bytes, read, read_card_into,
@@ -30,24 +33,24 @@ fn random_texts_come_back() {
 #[test]
 fn words_of_readings_come_back() {
     let mut random = Random(0x4528_21e6_38d0_1377);
-    let mut notes = [[0; NOTE_WORDS]; 128];
-    let mut bars = [[0; BAR_WORDS]; 128];
+    let mut notes = vec![[0; NOTE_WORDS]; 128];
+    let mut bars = vec![[0; BAR_WORDS]; 128];
     let mut accepted = 0;
     for _ in 0..CARDS {
         let buffers = Buffers {
             notes: &mut notes,
             bars: &mut bars,
-            figure: &mut [[0; NOTE_WORDS]; 128],
-            diagnostics: &mut [DiagnosticCell::default(); DIAGNOSTIC_CELLS],
+            figure: &mut vec![[0; NOTE_WORDS]; 128],
+            diagnostics: &mut vec![DiagnosticCell::default(); DIAGNOSTIC_CELLS],
         };
-        let Ok(lent) = read_into(&accented(&mut random), buffers) else {
+        let Ok(records) = read_into(&accented(&mut random), buffers) else {
             continue;
         };
         accepted += 1;
-        for words in lent.notes {
+        for words in records.notes {
             assert_eq!(Note::from_words(words).unwrap().to_words(), Some(*words));
         }
-        for words in lent.bars {
+        for words in records.bars {
             assert_eq!(Bar::from_words(words).unwrap().to_words(), Some(*words));
         }
     }
@@ -143,8 +146,8 @@ fn any_records_come_back() {
 
         let mut back_notes = vec![[POISON; NOTE_WORDS]; notes.len() + 1];
         let mut back_bars = vec![[POISON; BAR_WORDS]; bars.len() + 1];
-        let lent = read_card_into(&card, &mut back_notes, &mut back_bars).unwrap();
-        assert_eq!((lent.notes, lent.bars), (&notes[..], &bars[..]));
+        let back = read_card_into(&card, &mut back_notes, &mut back_bars).unwrap();
+        assert_eq!((back.notes, back.bars), (&notes[..], &bars[..]));
         assert_eq!(back_notes[notes.len()], [0; NOTE_WORDS]);
         assert_eq!(back_bars[bars.len()], [0; BAR_WORDS]);
 

@@ -1,5 +1,6 @@
 //! Cards: written, read back, and refused.
 
+mod exact;
 mod laid_out;
 
 use laid_out::comes_back;
@@ -9,7 +10,7 @@ use urthmoli::{
     TimeSymbol, TupletInfo, max_card_bytes, read, read_card_into, write_card_into,
 };
 
-const DOCUMENT: &str = include_str!("../../../docs/CARD.md");
+const DOCUMENT: &str = include_str!("../CARD.md");
 
 /// The line of docs/CARD.md.
 const LINE: &str = "%F-4$bB@3/4 ,2.B+/4B-";
@@ -19,9 +20,9 @@ const LINE: &str = "%F-4$bB@3/4 ,2.B+/4B-";
 const CARD: [u8; 45] = [
     1, 2, 0, 0, 0,
     0b111, 1, 0, 0, 0, 3, 6, 3, 4, 0,
-    0b100010, 16, 0, 13, 1, 1, 16, 0, 27, 1,
+    0b10_0010, 16, 0, 13, 1, 1, 16, 0, 27, 1,
     0, 2, 0, 0, 0,
-    0b100010, 20, 0, 16, 2, 1, 20, 0, 27, 1,
+    0b10_0010, 20, 0, 16, 2, 1, 20, 0, 27, 1,
     0b1, 21, 0, 16, 1,
 ];
 
@@ -138,24 +139,24 @@ fn bytes_of_no_card() {
     }
 }
 
-fn meter(numerator: u8, denominator: u8) -> Option<TimeSignature> {
-    Some(TimeSignature {
+fn meter(numerator: u8, denominator: u8) -> TimeSignature {
+    TimeSignature {
         numerator,
         denominator,
-    })
+    }
 }
 
-fn tuplet(actual_notes: u8, normal_notes: u8) -> Option<TupletInfo> {
-    Some(TupletInfo {
+fn tuplet(actual_notes: u8, normal_notes: u8) -> TupletInfo {
+    TupletInfo {
         actual_notes,
         normal_notes,
-    })
+    }
 }
 
 /// Readings put together by hand that no card holds.
 #[test]
 fn records_of_no_card() {
-    let changes: [fn(&mut Reading); 24] = [
+    let changes: [fn(&mut Reading); 27] = [
         |made| made.bars.clear(),
         |made| made.notes.clear(),
         |made| made.notes.truncate(2),
@@ -167,18 +168,21 @@ fn records_of_no_card() {
         |made| made.notes[2].kind = NoteKind::Grace,
         |made| made.notes[0].duration = None,
         |made| made.notes[0].dot_count = 4,
-        |made| made.notes[0].tuplet = tuplet(0, 0),
-        |made| made.notes[0].tuplet = tuplet(2, 1),
-        |made| made.notes[0].tuplet = tuplet(3, 3),
+        |made| made.notes[0].tuplet = Some(tuplet(0, 0)),
+        |made| made.notes[0].tuplet = Some(tuplet(2, 1)),
+        |made| made.notes[0].tuplet = Some(tuplet(3, 3)),
+        |made| made.notes[0].pitch_places = made.notes[2].pitch_places,
+        |made| made.notes[2].pitch_places = made.notes[1].pitch_places,
+        |made| made.notes[0].pitches = read("C^C").unwrap().notes[0].pitches,
         |made| made.notes[0].bar = 2,
         |made| made.bars[1].first_note = 0,
         |made| made.bars[1].first_note = usize::MAX,
         |made| made.bars[1].note_count = 0,
         |made| made.bars[1].note_count = usize::MAX,
         |made| made.bars[0].key_sig = Some(KeySignature { fifths: 8 }),
-        |made| made.bars[0].time_sig = meter(0, 0),
-        |made| made.bars[0].time_sig = meter(3, 0),
-        |made| made.bars[0].time_sig = meter(3, 6),
+        |made| made.bars[0].time_sig = Some(meter(0, 0)),
+        |made| made.bars[0].time_sig = Some(meter(3, 0)),
+        |made| made.bars[0].time_sig = Some(meter(3, 6)),
         |made| made.bars[1].time_symbol = Some(TimeSymbol::Cut),
     ];
     for (change, number) in changes.into_iter().zip(1..) {
@@ -202,7 +206,7 @@ fn a_whole_bar_rest_with_a_length() {
 }
 
 #[test]
-fn little_lent() {
+fn little_room() {
     let reading = read(LINE).unwrap();
     let notes: Vec<NoteWords> = reading.notes.iter().filter_map(Note::to_words).collect();
     let bars: Vec<BarWords> = reading.bars.iter().filter_map(Bar::to_words).collect();
@@ -239,11 +243,11 @@ fn messages() {
             "the notes and bars are not such as a card holds",
         ),
         (CardError::NotACard, 14, "the bytes are not those of a card"),
-        (CardError::CardRoom, 15, "the card passes the lent bytes"),
+        (CardError::CardRoom, 15, "the card doesn't fit its buffer"),
         (
             CardError::RecordRoom,
             15,
-            "the card's notes or bars pass the lent records",
+            "the card's notes or bars don't fit their buffers",
         ),
     ] {
         assert_eq!(error.number(), Some(number));

@@ -2,7 +2,7 @@
 
 use urthmoli::{Clef, Diagnostic, Reading, Refusal, read};
 
-/// Unicode's White_Space.
+/// Unicode's `White_Space`.
 const BLANKS: &str = "\t\n\u{b}\u{c}\r \u{85}\u{a0}\u{1680}\u{2000}\u{2001}\u{2002}\u{2003}\u{2004}\
     \u{2005}\u{2006}\u{2007}\u{2008}\u{2009}\u{200a}\u{2028}\u{2029}\u{202f}\u{205f}\u{3000}";
 
@@ -30,7 +30,7 @@ fn an_accent_is_one_token() {
     let reading = read("éC").unwrap();
     assert_eq!(found(&reading), [(15, data(1), "é", (0, 2))]);
     assert_eq!((reading.notes.len(), reading.notes[0].place), (1, 2));
-    assert_eq!(reading.notes[0].pitches[0].place, 2);
+    assert_eq!(reading.notes[0].pitch_places[0], 2);
 }
 
 #[test]

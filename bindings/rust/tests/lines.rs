@@ -52,7 +52,7 @@ fn a_chord_needs_a_note_before_it() {
 #[test]
 fn copies_take_the_place_of_their_sign() {
     assert_eq!(each("!CD!f", |note| note.place), [2, 3, 5, 5]);
-    assert_eq!(each("!CD!f", |note| note.pitches[0].place), [2, 3, 2, 3]);
+    assert_eq!(each("!CD!f", |note| note.pitch_places[0]), [2, 3, 2, 3]);
 }
 
 #[test]

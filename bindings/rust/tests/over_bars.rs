@@ -100,10 +100,10 @@ fn no_room_is_needed_for_it() {
         notes: &mut [[7; NOTE_WORDS]; 2],
         bars: &mut [[7; BAR_WORDS]; 2],
         figure: &mut [],
-        diagnostics: &mut [DiagnosticCell::default(); DIAGNOSTIC_CELLS],
+        diagnostics: &mut vec![DiagnosticCell::default(); DIAGNOSTIC_CELLS],
     };
-    let lent = read_into(b"!C/D!", buffers).unwrap();
-    assert_eq!((lent.notes.len(), lent.diagnostics.len()), (2, 1));
+    let records = read_into(b"!C/D!", buffers).unwrap();
+    assert_eq!((records.notes.len(), records.diagnostics.len()), (2, 1));
     let marked = "(C/Dtttttttt)";
     assert_eq!(found(marked), [(GROUP, 13)]);
     assert_eq!(each(marked, |note| note.articulations.len()), [0, 8]);

@@ -1,16 +1,18 @@
 //! Random texts: none panics, what is read hangs together, and 3 is refused exactly what `from_utf8` refuses.
 
 mod common;
+mod numbers;
 
-use common::{Random, SIGNS, accented};
+use common::{SIGNS, accented};
+use numbers::Random;
 use urthmoli::{NoteKind, Position, Reading, Refusal, read};
 
 const TEXTS: usize = 20_000;
 
 /// The characters that places count.
 fn data_of(text: &str) -> Vec<char> {
-    let fields = text.lines().rev().map(str::trim);
-    let value = fields.filter_map(|line| line.strip_prefix("@data:")).next();
+    let mut fields = text.lines().rev().map(str::trim);
+    let value = fields.find_map(|line| line.strip_prefix("@data:"));
     value.map_or(text, str::trim).chars().collect()
 }
 
@@ -43,8 +45,9 @@ fn is_whole(reading: &Reading, text: &[u8]) {
                 sign(note.place),
                 'A'..='G' | '-' | '=' | 'f' | 'i'
             ));
-            for pitch in &note.pitches {
-                assert_eq!(sign(pitch.place).to_string(), format!("{:?}", pitch.step));
+            assert_eq!(note.pitches.len(), note.pitch_places.len());
+            for (pitch, place) in note.pitches.iter().zip(&note.pitch_places) {
+                assert_eq!(sign(*place).to_string(), format!("{:?}", pitch.step));
             }
         }
     }

@@ -12,7 +12,7 @@ fn refused(text: impl AsRef<[u8]>) -> (Refusal, String) {
     (refusal, refusal.to_string())
 }
 
-/// The refusal's message, where so many notes, bars, figure records and diagnostic cells are lent.
+/// The refusal's message, where the buffers have so many notes, bars, figure records and diagnostic cells.
 fn refused_with(text: &str, [notes, bars, figure, cells]: [usize; 4]) -> String {
     let buffers = Buffers {
         notes: &mut vec![[7; NOTE_WORDS]; notes],
@@ -125,46 +125,46 @@ fn too_many_pitches_and_marks() {
 }
 
 #[test]
-fn too_little_lent() {
+fn too_little_room() {
     let cells = DIAGNOSTIC_CELLS;
     assert_eq!(
         refused_with("C", [1, 1, 1, cells - 1]),
-        "refused 2: 1023 diagnostic cells are lent, under 1024"
+        "refused 2: the buffer has 1023 diagnostic cells, under 1024"
     );
     assert_eq!(
         refused_with("CD", [1, 1, 1, cells]),
-        "refused 8 at data place 2: the notes pass the lent note records"
+        "refused 8 at data place 2: the notes don't fit their buffer"
     );
     assert_eq!(
         refused_with("!C!", [1, 1, 0, cells]),
-        "refused 11 at data place 3: the figure passes the lent figure records"
+        "refused 11 at data place 3: the figure doesn't fit its buffer"
     );
     assert_eq!(
         refused_with("C/D/", [2, 1, 0, cells]),
-        "refused 12 at data place 4: the bars pass the lent bar records"
+        "refused 12 at data place 4: the bars don't fit their buffer"
     );
     assert_eq!(
         refused_with("C ", [1, 0, 0, cells]),
-        "refused 12 at data place 3: the bars pass the lent bar records"
+        "refused 12 at data place 3: the bars don't fit their buffer"
     );
     assert_eq!(
         refused_with("éC", [1, 0, 0, cells]),
-        "refused 12 at data place 3: the bars pass the lent bar records"
+        "refused 12 at data place 3: the bars don't fit their buffer"
     );
 }
 
 /// The records and barlines of a rest of whole bars are checked in turn, all at its place.
 #[test]
-fn too_little_lent_for_whole_bars() {
+fn too_little_room_for_whole_bars() {
     let cells = DIAGNOSTIC_CELLS;
-    let notes = "refused 8 at data place 3: the notes pass the lent note records";
-    let bars = "refused 12 at data place 3: the bars pass the lent bar records";
+    let notes = "refused 8 at data place 3: the notes don't fit their buffer";
+    let bars = "refused 12 at data place 3: the bars don't fit their buffer";
     assert_eq!(refused_with("é/=3", [0, 3, 0, cells]), notes);
     assert_eq!(refused_with("é/=3", [1, 0, 0, cells]), bars);
     assert_eq!(refused_with("é/=3", [1, 1, 0, cells]), notes);
     assert_eq!(refused_with("é/=3", [2, 1, 0, cells]), bars);
     assert_eq!(
         refused_with("é/=3", [3, 2, 0, cells]),
-        "refused 12 at data place 5: the bars pass the lent bar records"
+        "refused 12 at data place 5: the bars don't fit their buffer"
     );
 }

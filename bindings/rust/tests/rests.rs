@@ -121,10 +121,10 @@ fn as_words() {
         notes: &mut [[7; NOTE_WORDS]; 2],
         bars: &mut [[7; BAR_WORDS]; 2],
         figure: &mut [],
-        diagnostics: &mut [DiagnosticCell::default(); DIAGNOSTIC_CELLS],
+        diagnostics: &mut vec![DiagnosticCell::default(); DIAGNOSTIC_CELLS],
     };
-    let lent = read_into(b"=2", buffers).unwrap();
-    for (words, bar) in lent.notes.iter().zip(1..) {
+    let records = read_into(b"=2", buffers).unwrap();
+    for (words, bar) in records.notes.iter().zip(1..) {
         let mut expected = [0; NOTE_WORDS];
         expected[note::PLACE] = 1;
         expected[note::KIND] = NoteKind::WholeBarRest.word();

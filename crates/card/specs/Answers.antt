@@ -1,4 +1,4 @@
--- What the card's two functions promise, on every input (02, R-3). Assumes nothing.
+-- What the card's two functions promise, on every input (specification, 15). Assumes nothing.
 use Prim.Native.Nat.{ℕ, _-_}
 use mathlib.Core.Path.{_≡_}
 use mathlib.Core.Bool.{true, _&&_}

@@ -1,4 +1,4 @@
--- The catalogue card (02, R-3): what a card holds, in which ranges, and its bytes. Assumes nothing.
+-- The catalogue card (specification, 15): what a card holds, in which ranges, and its bytes. Assumes nothing.
 use Prim.Native.Nat.{ℕ, _+_, _*_}
 use mathlib.Core.Bool.{Bool, cond, _&&_, _||_}
 use mathlib.Core.Option.{Option, Option·getD}

@@ -1,4 +1,4 @@
--- The words of a card's records in the lent cells (01, 'The lent records'). Assumes nothing.
+-- The words of a card's records in the lent cells (specification, 13). Assumes nothing.
 use Prim.Native.Nat.{ℕ, suc, _+_, _-_, _*_}
 use mathlib.Core.Bool.{cond}
 use mathlib.Core.Option.{Option, none, some}

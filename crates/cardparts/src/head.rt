@@ -22,7 +22,7 @@ use super::field::raised_at;
 use limits::Pae;
 use values::attributes::is_power_of_two;
 
-// 01's limit of a count, as a number of a word.
+// The specification's limit of a count, as a number of a word.
 const COUNT: u32 = Pae::MAX_COUNT as u32;
 
 // ---- judged

@@ -30,7 +30,7 @@ use records::cells::FIRST_PITCH;
 use records::cells::PITCH;
 use values::rhythm::normal_of;
 
-// 01's limits, as numbers of a word.
+// The specification's limits, as numbers of a word.
 const PITCHES: u32 = Pae::MAX_PITCHES as u32;
 
 const MARKS: u32 = Pae::MAX_MARKS as u32;

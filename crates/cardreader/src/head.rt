@@ -21,7 +21,7 @@ use cardparts::head::put_head;
 use cardparts::head::such_head;
 use limits::Pae;
 
-// 01's limit of notes, as a number of a word.
+// The specification's limit of notes, as a number of a word.
 const NOTES: u32 = Pae::MAX_NOTES as u32;
 
 // 1 if the key's bit stands.

@@ -1,4 +1,4 @@
--- The checks at a token (01's table, 7 to 12) and at the end (12, 13) over the program's values and cells: the number of the first that fails, 0 where none does. Assumes nothing.
+-- The checks at a token (S-2.7 to S-2.12) and at the end (12, 13) over the program's values and cells: the number of the first that fails, 0 where none does. Assumes nothing.
 use Prim.Native.Nat.{ℕ, _+_}
 use mathlib.Core.Bool.{Bool, cond, _&&_}
 use mathlib.Core.List.{List}

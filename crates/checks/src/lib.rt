@@ -1,4 +1,4 @@
-// The checks at a token, before it does anything (document 01's table, 7 to 12), and at the end (12, 13).
+// The checks at a token, before it does anything (S-2.7 to S-2.12), and at the end (12, 13).
 ghost use mathlib.Core.Path.{_≡_};
 ghost use mathlib.Core.Bool.{true};
 ghost use Prim.Native.Nat.{_+_, _*_, _≤_, _<_};

@@ -1,4 +1,4 @@
--- What the program's tokens are in document 01's rules. Assumes nothing.
+-- What the program's tokens are in the specification's rules. Assumes nothing.
 use Prim.Native.Nat.{ℕ, _<_, _≤_}
 use Prim.Native.Char.{code}
 use mathlib.Core.Path.{_≡_}

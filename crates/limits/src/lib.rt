@@ -2,7 +2,7 @@
 ghost use mathlib.Core.Path.{_≡_};
 ghost use Rattle.limits.specs.Pae.{freshPae};
 
-// What the open bar has, in document 01's words, 0 where it has none; and the alterations of the key last taken.
+// What the open bar has, in the specification's words, 0 where it has none; and the alterations of the key last taken.
 pub struct Attributes {
     pub clef: u8,
     pub keyed: bool,

@@ -1,5 +1,5 @@
 // Reads each line of standard input and prints its records, a row each; of a refused line the number and the place.
-// Its standard input is document 01's lines to prove, the last as document 02 (R-2) reads it.
+// Its standard input is the thirteen lines of crates/rules/proofs/Lines.antt, in fourteen texts.
 use ending::Reading;
 use libc::STDIN_FILENO;
 use libc::STDOUT_FILENO;

@@ -124,5 +124,5 @@ promise {text} {lent} {size} p h e =
       barCells = a .barCells;
       figureCells = a .figureCells;
       diagnosticCells = ap words e ∙ (λ i. words (published (blanks (lent .diagnostics)) (a .diagnosticCells i) (a .diagnosticCount i))) ∙ listed text lent size (refusalOf text (lentRecords lent)) refl all;
-      demand3 = p .demand3;
+      agrees = p .agrees;
     }

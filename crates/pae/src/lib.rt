@@ -1,4 +1,5 @@
-// The public surface: reads a text into lent records and a lent list of diagnostics; writes records as a catalogue card, and reads it back.
+// The public surface: reads a text into lent records and a lent list of diagnostics; writes records as a catalogue card, and reads it back;
+// says which reader this is.
 ghost use mathlib.Core.Path.{_≡_};
 ghost use Prim.Native.Nat.{_+_, _*_, _≤_};
 ghost use lib.ListN.{length};
@@ -8,6 +9,7 @@ ghost use Rattle.card.specs.Answers.{Written, ReadBack};
 ghost use Rattle.reading.specs.Answer.{lentWords};
 ghost use Rattle.pae.specs.List.{blank, blanks, stored, lentOf, recordAt, published};
 ghost use Rattle.pae.specs.Promise.{Promise};
+ghost use Rattle.pae.specs.Version.{version};
 use cardreader::read::CardRead;
 use cardreader::read::read_card;
 use cardwriter::write::CardWritten;
@@ -19,6 +21,9 @@ use records::cells::DIAGNOSTIC;
 use records::diagnostic;
 use records::diagnostic::diagnostic_at;
 use records::diagnostic::words_of;
+
+// The number that `pae_version` gives.
+const VERSION: u32 = 4;
 
 // So many diagnostics find room in the scratch that is tried first: few texts have more.
 const NEAR: usize = 64;
@@ -156,4 +161,12 @@ pub extern "C" fn pae_read_card(card: &[u8], notes: &mut [i32], bars: &mut [i32]
     ensures { λ r. ⌜ ReadBack form1 (now (card .entry)) (length (now (notes .entry))) (length (now (bars .entry))) (record { number = r .number; notes = r .notes; bars = r .bars; noteCells = now (notes .exit); barCells = now (bars .exit) }) ⌝ }
 {
     read_card(card, notes, bars)
+}
+
+// The reader's number.
+#[no_mangle]
+pub extern "C" fn pae_version() -> u32
+    ensures { λ r. ⌜ r ≡ version ⌝ }
+{
+    VERSION
 }

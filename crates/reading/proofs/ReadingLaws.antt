@@ -21,7 +21,7 @@ use Rattle.rules.specs.Refusals.{Refusal, refusal, refusalAt, refusalInTurn, to
 use Rattle.rules.specs.Reading.{Lent, lentRecords, attributesOf, tokensOf, diagnosticsOf, Reading, accepted, refused, reading}
 use Rattle.rules.specs.Words as words
 use Rattle.rules.specs.Words.{zeros, padded, storedDiagnostics}
-use Rattle.theorems.proofs.Demand3.{demand3-of}
+use Rattle.theorems.proofs.Agrees.{agrees-of}
 use Rattle.text.specs.Parts.{partAt}
 use Rattle.records.specs.Diagnostics.{heldCells}
 use Rattle.limits.specs.declared.Attributes.{Attributes}
@@ -66,10 +66,10 @@ pub answer-same : {text : List ℕ} {n n′ b b′ f cells size size′ : ℕ} {
     → Answered text (record { notes = n; bars = b; figure = f; diagnostics = cells }) size r notes bars figure scratch → Answered text (record { notes = n′; bars = b′; figure = f; diagnostics = cells }) size′ r notes bars figure scratch
 answer-same en eb es a = rw (← en, ← eb, ← es) a
 
--- ---- demand 3
+-- ---- the agreement
 
 pub promised : {text : List ℕ} {lent : Lent} {size : ℕ} {r : code.Reading} {notes bars figure scratch : List ℤ} → Answered text lent size r notes bars figure scratch → Promised text lent size r notes bars figure scratch
-promised {text} {lent} a = record { answered = a; demand3 = λ e. demand3-of text lent (sym (a .number) ∙ e) (a .noteCount) (a .noteCells) }
+promised {text} {lent} a = record { answered = a; agrees = λ e. agrees-of text lent (sym (a .number) ∙ e) (a .noteCount) (a .noteCells) }
 
 -- ---- a refusal
 

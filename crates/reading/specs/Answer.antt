@@ -9,7 +9,7 @@ use Rattle.rules.specs.Limits.{textLimit}
 use Rattle.rules.specs.Records.{given}
 use Rattle.rules.specs.Fields.{fieldsOf, fieldsDiagnosed}
 use Rattle.rules.specs.Refusals.{refusalOf}
-use Rattle.rules.specs.Agreement.{Demand3}
+use Rattle.rules.specs.Agreement.{Agrees}
 use Rattle.rules.specs.Reading.{Lent, lentRecords, diagnosticsOf, reading}
 use Rattle.rules.specs.Words.{zeros}
 use Rattle.records.specs.Diagnostics.{heldCells}
@@ -39,10 +39,10 @@ pub record Answered (text : List ℕ) (lent : Lent) (size : ℕ) (r : Reading) (
   pub figureCells : figure ≡ reading text lent .figureCells
   pub diagnosticCells : scratch ≡ scratchCells text lent size
 
--- the answer, and demand 3 of an accepted one
+-- the answer, and the agreement of an accepted one
 pub record Promised (text : List ℕ) (lent : Lent) (size : ℕ) (r : Reading) (notes bars figure scratch : List ℤ) : Type 0 where
   pub answered : Answered text lent size r notes bars figure scratch
-  pub demand3 : r .number ≡ 0 → Demand3 text (r .notes) notes
+  pub agrees : r .number ≡ 0 → Agrees text (r .notes) notes
 
 -- the fields of a text that has data, in cleared cells
 pub record Fielded (text : List ℕ) (fields : Fields) (noteCells barCells scratch : List ℤ) : Type 0 where

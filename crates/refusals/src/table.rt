@@ -1,4 +1,4 @@
-// The lines of the table: a name, what is lent, a text, and what document 01 says of it.
+// The lines of the table: a name, what is lent, a text, and what the specification says of it.
 ghost use Prim.Native.Nat.{_≤_};
 ghost use lib.ListN.{length};
 use ending::Reading;
@@ -105,7 +105,7 @@ pub(crate) fn lent_number(line: &[u8], which: u32, most: usize) -> usize
     least(number(line, name_end(line), which + 2) as usize, most)
 }
 
-// What came is what document 01 gives: number and place, notes, bars, diagnostics.
+// What came is what the specification gives: number and place, notes, bars, diagnostics.
 pub(crate) fn is_expected(line: &[u8], r: Reading) -> bool {
     let start = text_end(line);
     (number(line, start, 2) == r.number)

@@ -1,4 +1,4 @@
--- Demand 3 read against cells by hand: what it refuses (01, 'What a reviewer will try'), without the rules' own reading. Assumes nothing.
+-- The agreement (S-14.9) read against cells by hand: what it refuses, without the rules' own reading. Assumes nothing.
 use Prim.Native.Nat.{ℕ, _-_}
 use mir.Facts.{eqb-no}
 use mathlib.Core.Bool.{not}
@@ -18,7 +18,7 @@ use Rattle.rules.specs.Rules.{step, stateAfter}
 use Rattle.rules.specs.Words.{zeros, padded}
 use Rattle.rules.specs.Values.{patternOf, wholeBarsOf}
 use Rattle.rules.specs.Stored.{natural, StoredHeading}
-use Rattle.rules.specs.Agreement.{Demand3}
+use Rattle.rules.specs.Agreement.{Agrees}
 
 -- a record of one note: place, kind, duration, its pitch count, bar 1, then its pitches
 abbrev noteAt : ℕ → ℕ → ℕ → ℕ → List ℤ → List ℤ
@@ -40,24 +40,24 @@ sole (inr z) = absurd z
 
 pub record Cheats : Type 0 where
   -- the records left blank
-  pub blank : Demand3 (bytes "C") 1 (zeros noteSize) → ⊥
+  pub blank : Agrees (bytes "C") 1 (zeros noteSize) → ⊥
   -- every step word 0
-  pub step : Demand3 (bytes "D") 1 (noteAt 1 0 4 1 (pitch 1 0)) → ⊥
+  pub step : Agrees (bytes "D") 1 (noteAt 1 0 4 1 (pitch 1 0)) → ⊥
   -- only the first pitch of a chord
-  pub chord : Demand3 (bytes "C^E") 1 (noteAt 1 0 4 1 (pitch 1 0)) → ⊥
+  pub chord : Agrees (bytes "C^E") 1 (noteAt 1 0 4 1 (pitch 1 0)) → ⊥
   -- only what stands before the first barline
-  pub barline : Demand3 (bytes "C/E") 1 (noteAt 1 0 4 1 (pitch 1 0)) → ⊥
+  pub barline : Agrees (bytes "C/E") 1 (noteAt 1 0 4 1 (pitch 1 0)) → ⊥
   -- `xx` as 1
-  pub sign : Demand3 (bytes "xxC") 1 (noteAt 3 0 4 1 (pos 3 ∷ pos 0 ∷ pos 4 ∷ pos 1 ∷ [])) → ⊥
+  pub sign : Agrees (bytes "xxC") 1 (noteAt 3 0 4 1 (pos 3 ∷ pos 0 ∷ pos 4 ∷ pos 1 ∷ [])) → ⊥
   -- a `g` note with the pattern's length, or with kind 2
-  pub slashed-length : Demand3 (bytes "gC") 1 (noteAt 2 3 4 1 (pitch 2 0)) → ⊥
-  pub slashed-kind : Demand3 (bytes "gC") 1 (noteAt 2 2 5 1 (pitch 2 0)) → ⊥
+  pub slashed-length : Agrees (bytes "gC") 1 (noteAt 2 3 4 1 (pitch 2 0)) → ⊥
+  pub slashed-kind : Agrees (bytes "gC") 1 (noteAt 2 2 5 1 (pitch 2 0)) → ⊥
   -- an eighth without a digit token
-  pub default : Demand3 (bytes "C") 1 (noteAt 1 0 5 1 (pitch 1 0)) → ⊥
+  pub default : Agrees (bytes "C") 1 (noteAt 1 0 5 1 (pitch 1 0)) → ⊥
   -- a whole-bar rest with a rest's kind
-  pub whole-bar-kind : Demand3 (bytes "=") 1 (noteAt 1 1 0 0 []) → ⊥
+  pub whole-bar-kind : Agrees (bytes "=") 1 (noteAt 1 1 0 0 []) → ⊥
   -- a note count invented
-  pub count : Demand3 (bytes "C") 2 (noteAt 1 0 4 1 (pitch 1 0) ++ zeros noteSize) → ⊥
+  pub count : Agrees (bytes "C") 2 (noteAt 1 0 4 1 (pitch 1 0) ++ zeros noteSize) → ⊥
 
 pub cheats : Cheats
 unfolding characterSize codePoint isBlank tokenSize tokenOf itemAt itemsAfter linesAfter fieldsAfter fieldsOf patternOf wholeBarsOf stateAfter step

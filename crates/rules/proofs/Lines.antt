@@ -1,4 +1,4 @@
--- 01's 'Lines to prove, lines to dodge', over the bytes, as one statement; lines for its mistakes to rule out; lines of characters (02, R-1) and of whole-bar rests (R-2) and of groups over a barline (R-4); and lines for slips in single rules.
+-- Thirteen lines of the specification, over the bytes, as one statement; lines for mistakes to rule out; lines of characters (S-1.2, S-1.4, S-3.1) and of whole-bar rests (specification, 8) and of groups over a barline (S-10.2); and lines for slips in single rules.
 -- Each holds for every lent size that suffices. Assumes nothing.
 use Prim.Native.Nat.{ℕ, zero, suc, _*_, _≤_}
 use mathlib.Core.Path.{_≡_, refl, ap}
@@ -226,7 +226,7 @@ mistakes = record {
   clef = λ lent h. ap clefs (reads _ h tt);
 }
 
--- ---- characters (02, R-1)
+-- ---- characters (S-1.2, S-1.4, S-3.1)
 
 -- the bytes of `é`, `ü`, `ï`; a blank, U+00A0; a line separator, U+2028; a zero-width space, U+200B, which is no blank
 abbrev é : List ℕ
@@ -305,7 +305,7 @@ characters = record {
   unread = λ lent h. ap outcome (reads _ h tt);
 }
 
--- ---- whole-bar rests (02, R-2)
+-- ---- whole-bar rests (specification, 8)
 
 -- what `C=3` comes to, with so many note and bar records lent
 abbrev turned : ℕ → ℕ → List ℕ

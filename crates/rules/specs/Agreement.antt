@@ -1,4 +1,4 @@
--- Demand 3: what stands in the note cells and the look-back agree on every letter (01, 'The look-back'). Assumes nothing.
+-- The agreement: what stands in the note cells and the look-back agree on every letter (S-14.9 to S-14.15). Assumes nothing.
 use Prim.Native.Nat.{ℕ, _+_, _-_}
 use mathlib.Core.Path.{_≡_}
 use mathlib.Core.Bool.{Bool, true, false, _&&_, _||_}
@@ -108,8 +108,8 @@ module _ (k : Attributes) (line : Part) (all : List Item) where
 abbrev pub Placed : Part → Item → Type 0
 Placed line x = x .place ≡ 1 + charactersIn (take (x .offset - line .start) (line .bytes))
 
--- demand 3 of a text, the note count and the note cells
-pub record Demand3 (text : List ℕ) (count : ℕ) (cells : List ℤ) : Type 0 where
+-- the agreement of a text, the note count and the note cells
+pub record Agrees (text : List ℕ) (count : ℕ) (cells : List ℤ) : Type 0 where
   -- places count characters
   pub placed : All (Placed (dataOf text)) (tokensOf text)
   -- the first records, as counted, agree with the look-back

@@ -1,4 +1,4 @@
--- Characters (02, R-1): well-formed UTF-8, White_Space, trimming. A text is the list of its bytes; a character is what stands at the start of a text. Assumes nothing.
+-- Characters (S-1.1 to S-1.5, S-3.1): well-formed UTF-8, White_Space, trimming. A text is the list of its bytes; a character is what stands at the start of a text. Assumes nothing.
 use Prim.Native.Nat.{ℕ, zero, suc, _+_, _-_, _*_, _%_}
 use mathlib.Core.Bool.{Bool, true, false, not, _&&_, _||_}
 use mathlib.Core.List.{List, [], _∷_}

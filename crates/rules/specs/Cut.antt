@@ -1,4 +1,4 @@
--- How tokens are cut from the left, by the text alone (01, 'Tokens'). Assumes nothing.
+-- How tokens are cut from the left, by the text alone (specification, 3). Assumes nothing.
 use Prim.Native.Nat.{ℕ, _+_}
 use Prim.Native.Char.{code}
 use mathlib.Core.Bool.{Bool, _||_}

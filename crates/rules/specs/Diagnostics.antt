@@ -1,4 +1,4 @@
--- What is diagnosed, d1 to d20 (01, 'Fields and attributes' to 'Groups and marks'); the latest first. Assumes nothing.
+-- What is diagnosed, d1 to d20 (specification, 4 to 12); the latest first. Assumes nothing.
 use Prim.Native.Nat.{ℕ, _+_}
 use mathlib.Core.Bool.{Bool, not, _&&_, _||_}
 use mathlib.Core.Option.{Option}

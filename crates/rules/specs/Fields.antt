@@ -1,4 +1,4 @@
--- Lines, fields and the data (01, 'Fields and attributes'). Assumes nothing.
+-- Lines, fields and the data (specification, 4). Assumes nothing.
 use Prim.Native.Nat.{ℕ, zero, suc, _+_}
 use Prim.Native.Char.{code}
 use mathlib.Core.Bool.{Bool, false, not, _&&_, _||_}

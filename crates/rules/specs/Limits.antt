@@ -1,4 +1,4 @@
--- The sizes and limits of document 01, each said once. Assumes nothing.
+-- The sizes and limits of the specification, each said once. Assumes nothing.
 use Prim.Native.Nat.{ℕ, _+_, _*_}
 
 -- a text has at most 65,535 bytes

@@ -1,4 +1,4 @@
--- The look-back from one letter (01, 'The look-back'), in its own clauses: each definition scans the tokens before the letter, the latest first.
+-- The look-back from one letter (specification, 14), in its own clauses: each definition scans the tokens before the letter, the latest first.
 -- What is stored is worked out by the rules from those tokens; where there is no earlier letter, digit token or barline, the data's start is taken. Assumes nothing.
 use Prim.Native.Nat.{ℕ, suc, _-_, _%_}
 use mathlib.Core.Bool.{Bool, true, false, not, _&&_, _||_}

@@ -1,4 +1,4 @@
--- The whole answer: the result and every cell of the four lent buffers, from the text and the lent sizes (01, 'Where a reading can stop', 'The lent records'). Assumes nothing.
+-- The whole answer: the result and every cell of the four lent buffers, from the text and the lent sizes (specification, 2 and 13). Assumes nothing.
 use Prim.Native.Nat.{ℕ, _*_, _/_}
 use mathlib.Core.List.{List, _++_}
 use lib.IntN.{ℤ}

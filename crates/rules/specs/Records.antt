@@ -1,4 +1,4 @@
--- What is stored: notes, bars, diagnostics (01, 'The lent records'); before them, four words about optional values and lists. Lists have the latest first. Assumes nothing.
+-- What is stored: notes, bars, diagnostics (specification, 13); before them, four words about optional values and lists. Lists have the latest first. Assumes nothing.
 use Prim.Native.Nat.{ℕ}
 use mathlib.Core.Bool.{Bool, true, false, _||_}
 use mathlib.Core.Option.{Option, none, some}

@@ -1,4 +1,4 @@
--- Where a reading can stop (01's table), in its order. Assumes nothing.
+-- Where a reading can stop (the table of specification, 2), in its order. Assumes nothing.
 use Prim.Native.Nat.{ℕ, zero, suc, _+_}
 use mathlib.Core.Bool.{Bool, true, false, not, _&&_}
 use mathlib.Core.Option.{Option, none, some}

@@ -1,4 +1,4 @@
--- What each token of the data does to the reading (01, 'Bars' to 'Groups and marks'). The step gives each field of the state one expression,
+-- What each token of the data does to the reading (specification, 5 to 11). The step gives each field of the state one expression,
 -- so that what a token leaves alone can be read off. Tokens, notes, bars, pitches and marks are lists with the latest first.
 -- Refusals and diagnostics are no part of the state (Refusals, Diagnostics). Assumes nothing.
 use Prim.Native.Nat.{ℕ, zero, suc, _+_, _-_}

@@ -1,4 +1,4 @@
--- What stands in the lent note cells, read out of the words alone (01, 'The lent records', 'The look-back'). Assumes nothing.
+-- What stands in the lent note cells, read out of the words alone (specification, 13 and 14). Assumes nothing.
 use Prim.Native.Nat.{ℕ, zero, suc, _*_}
 use mathlib.Core.Bool.{Bool, false}
 use mathlib.Core.List.{List, [], _∷_, map}

@@ -1,4 +1,4 @@
--- The tokens of the data, what each one is, and where it stands (01, 'Tokens'). Assumes nothing.
+-- The tokens of the data, what each one is, and where it stands (specification, 3). Assumes nothing.
 use Prim.Native.Nat.{ℕ, zero, suc, _+_, _-_, _<_}
 use Prim.Native.Char.{code}
 use mathlib.Core.Bool.{Bool, true, false}

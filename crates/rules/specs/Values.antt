@@ -1,4 +1,4 @@
--- What the values of tokens and fields say (01, 'Fields and attributes', 'Letters and rests', 'Groups and marks'). Assumes nothing.
+-- What the values of tokens and fields say (specification, 4, 6 to 8 and 10). Assumes nothing.
 use Prim.Native.Nat.{ℕ, _+_, _-_, _*_, _%_}
 use Prim.Native.Char.{code}
 use mathlib.Core.Bool.{Bool, true, false, not, _&&_, _||_}

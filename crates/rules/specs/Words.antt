@@ -1,4 +1,4 @@
--- Records as words in the lent cells (01, 'The lent records'). Assumes nothing.
+-- Records as words in the lent cells (specification, 13). Assumes nothing.
 use Prim.Native.Nat.{ℕ, zero, suc, _+_, _-_, _*_}
 use mathlib.Core.Bool.{Bool}
 use mathlib.Core.Option.{Option, none, some, Option·getD}

@@ -1,1 +1,1 @@
-// Document 01 as definitions, in specs/: no code.
+// The specification as definitions, in specs/: no code.

@@ -1,4 +1,4 @@
--- The open bar's clef, key, meter and left (01, 'Fields and attributes', 'Bars'). Assumes nothing.
+-- The open bar's clef, key, meter and left (specification, 4 and 5). Assumes nothing.
 use Prim.Native.Nat.{ℕ, zero, suc}
 use Prim.Native.Char.{code}
 use native.Mathlib.Omega.{arith}

@@ -1,4 +1,4 @@
--- The starts that `!`, `{` and `(` note, and the open group's count (01, 'Figures', 'Groups and marks'). Assumes nothing.
+-- The starts that `!`, `{` and `(` note, and the open group's count (specification, 10 and 11). Assumes nothing.
 use Prim.Native.Nat.{ℕ, _+_, _≤_}
 use native.Mathlib.Omega.{arith}
 use mathlib.Core.Path.{_≡_, refl, _∙_}

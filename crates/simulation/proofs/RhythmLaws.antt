@@ -1,4 +1,4 @@
--- The pattern and how many of its values were taken (01, 'Letters and rests'). Assumes nothing.
+-- The pattern and how many of its values were taken (specification, 7). Assumes nothing.
 use Prim.Native.Nat.{ℕ, _≤_}
 use mathlib.Core.Path.{_≡_, refl, ap, _∙_}
 use mathlib.Core.Bool.{Bool, true, false, cond, not, _||_}

@@ -1,4 +1,4 @@
--- The octave, and what waits for the next letter or opened note (01, 'Letters and rests', 'Groups and marks'). Assumes nothing.
+-- The octave, and what waits for the next letter or opened note (specification, 6, 7 and 9). Assumes nothing.
 use Prim.Native.Nat.{ℕ}
 use native.Mathlib.Omega.{arith}
 use mathlib.Core.Path.{_≡_, refl, ap, _∙_}

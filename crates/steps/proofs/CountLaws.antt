@@ -1,4 +1,4 @@
--- What the program reads in its counts and in the lent notes is what the rules read in the open bar (01, 'The lent records'). Assumes nothing.
+-- What the program reads in its counts and in the lent notes is what the rules read in the open bar (specification, 13). Assumes nothing.
 use Prim.Native.Nat.{ℕ, suc, _+_, _-_, _*_, _<_, _≤_}
 use native.Mathlib.Omega.{arith}
 use mathlib.Core.Path.{_≡_, sym, _∙_}

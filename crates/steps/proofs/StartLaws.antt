@@ -1,4 +1,4 @@
--- The open bar's notes from a start on, and what a `)` makes of them: what the program reads is what the rules say (01, 'Groups and marks'; 02, R-4). Assumes nothing.
+-- The open bar's notes from a start on, and what a `)` makes of them: what the program reads is what the rules say (specification, 10). Assumes nothing.
 use Prim.Native.Nat.{ℕ, _+_, _-_, _*_, _<_, _≤_}
 use native.Mathlib.Omega.{arith}
 use mathlib.Core.Path.{_≡_, refl, sym, ap, _∙_}

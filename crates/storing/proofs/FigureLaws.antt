@@ -1,4 +1,4 @@
--- Figures: what `!` takes and what `f` and `i` append is what the rules take and append (01, 'Figures'). Assumes nothing.
+-- Figures: what `!` takes and what `f` and `i` append is what the rules take and append (specification, 11). Assumes nothing.
 use Prim.Native.Nat.{ℕ, suc, _+_, _*_, _≤_}
 use native.Mathlib.Omega.{arith}
 use native.Mathlib.Numerals.{add-one}

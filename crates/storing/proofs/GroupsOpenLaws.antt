@@ -1,4 +1,4 @@
--- Beams, tuplets and fermatas: the open bar's notes from a start on, changed in the lent notes as in the rules (01, 'Groups and marks'; 02, R-4). Assumes nothing.
+-- Beams, tuplets and fermatas: the open bar's notes from a start on, changed in the lent notes as in the rules (specification, 10). Assumes nothing.
 use Prim.Native.Nat.{ℕ, _+_}
 use native.Mathlib.Omega.{arith}
 use mathlib.Core.Path.{_≡_, refl, sym, ap, subst, _∙_}

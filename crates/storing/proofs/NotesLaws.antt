@@ -1,4 +1,4 @@
--- Letters, rests, ties and trills: the lent notes after them hold the open bar after them (01, 'Letters and rests', 'Groups and marks'). Assumes nothing.
+-- Letters, rests, ties and trills: the lent notes after them hold the open bar after them (specification, 6, 7 and 9). Assumes nothing.
 use Prim.Native.Nat.{ℕ, suc, _+_, _-_, _*_, _<_, _≤_}
 use native.Mathlib.Omega.{arith}
 use native.Mathlib.Numerals.{add-one}

@@ -1,4 +1,4 @@
--- The classes of bytes, by the tests of document 01. Assumes nothing.
+-- The classes of bytes, by the tests of the specification. Assumes nothing.
 use Prim.Native.Nat.{ℕ}
 use mathlib.Core.Bool.{Bool, not, _&&_}
 use lib.Dec.{eqb, ltb}

@@ -1,4 +1,4 @@
--- The keys of fields (01, 'Fields and attributes'). Assumes nothing.
+-- The keys of fields (specification, 4). Assumes nothing.
 use Prim.Native.Nat.{ℕ}
 use mathlib.Core.List.{List}
 use Rattle.rules.specs.Text.{bytes, if_then_else_, isText}

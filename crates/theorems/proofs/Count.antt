@@ -1,4 +1,4 @@
--- The note count: opened letters plus rests plus whole-bar rests plus copies, the records with the place of an `f` or `i` (01, 'The look-back', 'What a reviewer will try'). Assumes nothing.
+-- The note count: opened letters plus rests plus whole-bar rests plus copies, the records with the place of an `f` or `i` (S-14.15). Assumes nothing.
 use Prim.Native.Nat.{ℕ, suc, _+_, _-_, _<_, _≤_}
 use mathlib.Core.Path.{_≡_, refl, sym, ap, _∙_}
 use mathlib.Core.Bool.{Bool, true, false, not, cond, _&&_, _||_}

@@ -1,4 +1,4 @@
--- Groups over a barline (02, R-4), of every state: closed in a later bar, `(` always gives d10 and `!` d17, a beam is dropped silently, nothing is made of any of them; and which barlines start a later bar. Assumes nothing.
+-- Groups over a barline (S-10.1 to S-10.3), of every state: closed in a later bar, `(` always gives d10 and `!` d17, a beam is dropped silently, nothing is made of any of them; and which barlines start a later bar. Assumes nothing.
 use Prim.Native.Nat.{ℕ, suc, _≤_}
 use native.Mathlib.Omega.{arith}
 use mathlib.Core.Path.{_≡_, refl}

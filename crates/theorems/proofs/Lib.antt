@@ -15,5 +15,5 @@ pub mod Count
 pub mod Accepted
 pub mod Capacity
 pub mod Cells
-pub mod Demand3
+pub mod Agrees
 pub mod Frame

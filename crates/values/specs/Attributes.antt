@@ -1,4 +1,4 @@
--- Clefs, keys and meters of the program as document 01's numbers and values. Assumes nothing.
+-- Clefs, keys and meters of the program as the specification's numbers and values. Assumes nothing.
 use Prim.Native.Nat.{ℕ}
 use mathlib.Core.Option.{Option, none, some}
 use lib.IntN.{ℤ, pos, negsuc}

@@ -1,5 +1,5 @@
-//! One call of the library held against what is due: the original's answer, the places and refusals of document 01, and
-//! every lent cell.
+//! One call of the library held against what is due: the original's answer, the places and refusals that the specification
+//! adds, and every lent cell.
 
 use crate::library::{BAR, Cells, DIAGNOSTIC, DIAGNOSTICS, Lent, NOTE, Reading, all_zero};
 use crate::original::{Found, Original, Outcome, PITCH, PITCHES, ROOM, found};

@@ -1,4 +1,4 @@
-//! The original Rust's answer, laid out in document 01's words; those marked as added are left 0.
+//! The original Rust's answer, laid out in the words of the records; those that it doesn't have are left 0.
 
 use crate::library::{BAR, NOTE};
 use acorde_core::{

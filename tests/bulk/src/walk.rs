@@ -1,6 +1,6 @@
-//! Places and refusals, which the original doesn't have, worked out from the text by document 01: where each record comes
+//! Places and refusals, which the original doesn't have, worked out from the text: where each record comes
 //! from, and where a reading stops. Held against the original's counts on every text that both read to the end. And what
-//! is closed in a later bar, which the original reads otherwise (document 02, R-4).
+//! is closed in a later bar, which the original reads otherwise (S-10.2).
 
 use crate::library::{BAR, DIAGNOSTICS, Lent, NOTE};
 use crate::original::ROOM;

@@ -1,5 +1,5 @@
-//! A second writer and reader of catalogue cards, written from R-3 of document 02 and the records of document 01 alone.
-//! The quoted sentences are the documents'. It is plain on purpose: the reader takes the bytes from front to back and
+//! A second writer and reader of catalogue cards, written from the request for them and the words of the records alone;
+//! sections 13 and 15 of docs/SPECIFICATION.md say the same. The quoted sentences are the request's. It is plain on purpose: the reader takes the bytes from front to back and
 //! judges each where it stands; the writer judges all records first.
 
 pub const NOTE_WORDS: usize = 44;

@@ -1,5 +1,5 @@
-//! A second reader of Plaine & Easie Code, written from docs 01 (scope) and 02 alone. The quoted
-//! sentences are the documents'. It is plain on purpose: tokens are cut first, then read one by one.
+//! A second reader of Plaine & Easie Code, written from the scope that the reader was asked to have and the requests R-1,
+//! alone, whose words docs/SPECIFICATION.md has replaced. The quoted sentences are theirs. It is plain on purpose: tokens are cut first, then read one by one.
 
 pub const NOTE_WORDS: usize = 44;
 pub const BAR_WORDS: usize = 10;
@@ -731,7 +731,7 @@ impl<'a> State<'a> {
             return Ok(());
         };
         let count = self.group_count.take();
-        // "Closed in a later bar, `(` always gives d10" (R-4, for 01's "start beyond the bar's length, d10")
+        // "Closed in a later bar, `(` always gives d10" (R-4, for the scope's "start beyond the bar's length, d10")
         if self.in_later_bar(start, 0) {
             self.diagnose([10, spot.kind, spot.place, 2, 0, 0]);
             return Ok(());
@@ -768,7 +768,7 @@ impl<'a> State<'a> {
             self.figure_start = Some(self.start());
             return Ok(());
         };
-        // "Closed in a later bar, [..] `!` d17" (R-4, for 01's "or is d17 if the bar is now shorter")
+        // "Closed in a later bar, [..] `!` d17" (R-4, for the scope's "or is d17 if the bar is now shorter")
         if self.in_later_bar(start, 2) {
             self.about(17, spot, token);
             return Ok(());

@@ -1,5 +1,7 @@
 //! Random texts.
 
+use crate::numbers::Random;
+
 /// Signs that mean something, those of fields among them.
 pub const SIGNS: &[u8] =
     b"ABCDEFG''',,xxbbn^^--//::(){};;!!ffi++ttgqqr%G-2$xF@c/3/4.0124568.7 \n@data:@clef:@x:z=";
@@ -10,20 +12,7 @@ const WIDE: [&str; 12] = [
     "\u{feff}",
 ];
 
-pub struct Random(pub u64);
-
 impl Random {
-    pub fn next(&mut self) -> u64 {
-        self.0 ^= self.0 << 13;
-        self.0 ^= self.0 >> 7;
-        self.0 ^= self.0 << 17;
-        self.0
-    }
-
-    pub fn below(&mut self, limit: usize) -> usize {
-        usize::try_from(self.next() % u64::try_from(limit).unwrap()).unwrap()
-    }
-
     pub fn text(&mut self, mut byte: impl FnMut(&mut Self) -> u8) -> Vec<u8> {
         let length = self.below(80);
         (0..length).map(|_| byte(self)).collect()

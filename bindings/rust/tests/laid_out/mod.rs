@@ -1,6 +1,8 @@
 //! Cards laid out by hand, as docs/CARD.md has them.
 
-use urthmoli::{Bar, Note, Pitch, Reading, TimeSymbol};
+use crate::exact::words_of;
+use std::iter;
+use urthmoli::{Bar, Clef, Duration, Note, Pitch, Reading, TimeSymbol};
 
 /// The byte that holds a word.
 fn byte(word: i32) -> u8 {
@@ -34,7 +36,7 @@ fn bar_bytes(bar: &Bar) -> Vec<u8> {
         .time_sig
         .map(|meter| vec![meter.numerator, meter.denominator, symbol]);
     let fields = [
-        unless_zero(bar.clef.map_or(0, |clef| clef.word())),
+        unless_zero(bar.clef.map_or(0, Clef::word)),
         key.into_iter().collect(),
         meter.unwrap_or_default(),
         unless_zero(bar.barline_left.word()),
@@ -47,13 +49,14 @@ fn bar_bytes(bar: &Bar) -> Vec<u8> {
 }
 
 fn note_bytes(note: &Note) -> Vec<u8> {
-    let duration = note.duration.map_or(0, |duration| duration.word());
+    let duration = note.duration.map_or(0, Duration::word);
     let [low, high] = u16::try_from(note.place).unwrap().to_le_bytes();
     let marks = note
         .articulations
         .iter()
         .zip(0..)
         .map(|(mark, bit)| byte(mark.word()) << bit);
+    let pitches = iter::zip(&note.pitches, &note.pitch_places);
     let fields = [
         unless_zero(note.kind.word()),
         unless_zero(note.ties.word()),
@@ -65,14 +68,16 @@ fn note_bytes(note: &Note) -> Vec<u8> {
         counted(note.articulations.len(), vec![marks.sum()]),
         counted(
             note.pitches.len(),
-            note.pitches.iter().flat_map(pitch_bytes).collect(),
+            pitches
+                .flat_map(|(pitch, place)| pitch_bytes(*pitch, *place))
+                .collect(),
         ),
     ];
     mapped(&[low, high, byte(4 * duration) + note.dot_count], &fields)
 }
 
-fn pitch_bytes(pitch: &Pitch) -> [u8; 4] {
-    let [low, high] = u16::try_from(pitch.place).unwrap().to_le_bytes();
+fn pitch_bytes(pitch: Pitch, place: u32) -> [u8; 4] {
+    let [low, high] = u16::try_from(place).unwrap().to_le_bytes();
     let tone = byte(pitch.step.word() + 7 * i32::from(pitch.octave));
     [low, high, tone, byte(i32::from(pitch.alter) + 2)]
 }
@@ -87,11 +92,13 @@ fn laid_out(reading: &Reading) -> Vec<u8> {
     card
 }
 
-/// The reading's card, which is laid out so and has the same notes and bars, and no diagnostics.
+/// The reading's card, which is laid out so and has the same notes and bars, places included, and no
+/// diagnostics.
 pub fn comes_back(reading: &Reading) -> Vec<u8> {
     let card = reading.to_card().unwrap();
     assert_eq!(card, laid_out(reading));
     let back = Reading::from_card(&card).unwrap();
+    assert_eq!(words_of(&back.notes), words_of(&reading.notes));
     assert_eq!(back.notes, reading.notes);
     assert_eq!(back.bars, reading.bars);
     assert!(back.diagnostics.is_empty());

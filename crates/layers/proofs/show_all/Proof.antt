@@ -5,10 +5,10 @@ use Rattle.layers.proofs.show_all.Statement.{statement}
 use Rattle.layers.proofs.show_all.Tie as tie
 
 abbrev Inv-loop : tie.InvT-loop
-Inv-loop input at₀ t5 t6 at = at ≤ length input
+Inv-loop input options at₀ at = at ≤ length input
 
 abbrev μ-loop : tie.MeasureT-loop
-μ-loop input at₀ t5 t6 at = length input - at
+μ-loop input options at₀ at = length input - at
 
 pub show-all-spec : {M : Type 1} → statement M
 show-all-spec =
@@ -26,8 +26,10 @@ show-all-spec =
     (λ c. search needs)
     (λ c. search needs)
     (λ c. search needs)
-    (λ c. search needs)
     (λ c κs. search needs)
+    (λ c. search needs)
+    (λ c. search needs)
+    (λ c. search needs)
     (λ c. search needs)
     (λ c κs. search needs)
     (λ c. search needs)

@@ -1,4 +1,4 @@
-//! Texts at document 01's limits, and lent sizes around what a text needs.
+//! Texts at the specification's limits, and lent sizes around what a text needs.
 
 use super::characters::WIDE_BLANKS;
 use super::incipits::{FORMS, GROUP_INCIPITS, INCIPITS, RECORDS, REST_INCIPITS};
@@ -552,7 +552,7 @@ pub fn many_rests() -> Vec<Vec<u8>> {
     texts
 }
 
-/// Texts with rests of whole bars, the words and cells that are lent, and the answers by document 02.
+/// Texts with rests of whole bars, the words and cells that are lent, and the answers by the specification (8).
 pub fn stated() -> Vec<(Vec<u8>, Lent, Reading)> {
     let thousands = |count: usize| "=1000".repeat(count);
     let accepted = |notes, bars, diagnostics| Reading {
@@ -613,8 +613,8 @@ pub fn stated() -> Vec<(Vec<u8>, Lent, Reading)> {
     ample.into_iter().chain(few).collect()
 }
 
-/// Texts with groups, beams and figures over barlines, how many records of a figure are lent, and the answers by document
-/// 02 in the words of `told`.
+/// Texts with groups, beams and figures over barlines, how many records of a figure are lent, and the answers by
+/// S-10.2 in the words of `told`.
 pub const STATED_LATER: [(&str, usize, &str); 60] = [
     // closed in a later bar
     ("C(D/EFG)", 0, "C D / E F G; d10 at 8"),

@@ -1,8 +1,0 @@
-use native.Mathlib.Nat.{mod-lt}
-use native.Mathlib.Omega.{arith}
-use borrow.Author.Needs.{needs}
-use Rattle.layers.proofs.why.element_after.Statement.{statement}
-use Rattle.layers.proofs.why.element_after.Tie as tie
-
-pub element-after-spec : {M : Type 1} → statement M
-element-after-spec = tie.close (tie.spec (λ c. search needs) (λ c. mod-lt (c .args .taken) (omega arith)))
