@@ -90,8 +90,10 @@ fn latest_marked(data: &[u8], table: &[usize], from: usize, step: u8, octave: u8
         if letter == 0 {
             return 0;
         }
-        if (0 < sign_of(table, letter)) & (octave_of(data, table, letter) == octave) {
-            return letter;
+        if 0 < sign_of(table, letter) {
+            if octave_of(data, table, letter) == octave {
+                return letter;
+            }
         }
         k = letter - 1;
     }
