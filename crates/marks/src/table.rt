@@ -139,43 +139,43 @@ pub fn took_length(table: &[usize], k: usize) -> bool
 // The letters are 1 to 7, by their step.
 pub(crate) const OCTAVE: usize = 8;
 
-pub const SIGN: usize = 9;
+pub(crate) const SIGN: usize = 9;
 
-pub const CHORD: usize = 10;
+pub(crate) const CHORD: usize = 10;
 
-pub const BARLINE: usize = 11;
+pub(crate) const BARLINE: usize = 11;
 
 // `=` of 2 or more bars: its last barline stands before its last record
 pub const WHOLE_BARS: usize = 12;
 
-pub const PATTERN: usize = 13;
+pub(crate) const PATTERN: usize = 13;
 
-pub const KEY: usize = 14;
+pub(crate) const KEY: usize = 14;
 
-pub const CLEF: usize = 15;
+pub(crate) const CLEF: usize = 15;
 
-pub const GRACE: usize = 16;
+pub(crate) const GRACE: usize = 16;
 
-pub const GRACE_GROUP: usize = 17;
+pub(crate) const GRACE_GROUP: usize = 17;
 
-pub const REST: usize = 18;
+pub(crate) const REST: usize = 18;
 
-pub const BEAM_OPEN: usize = 19;
+pub(crate) const BEAM_OPEN: usize = 19;
 
-pub const BEAM_CLOSE: usize = 20;
+pub(crate) const BEAM_CLOSE: usize = 20;
 
-pub const GROUP_OPEN: usize = 21;
+pub(crate) const GROUP_OPEN: usize = 21;
 
-pub const GROUP_CLOSE: usize = 22;
+pub(crate) const GROUP_CLOSE: usize = 22;
 
-pub const FIGURE_MARK: usize = 23;
+pub(crate) const FIGURE_MARK: usize = 23;
 
-pub const REPEAT: usize = 24;
+pub(crate) const REPEAT: usize = 24;
 
 // `=` of one bar
-pub const WHOLE_BAR: usize = 25;
+pub(crate) const WHOLE_BAR: usize = 25;
 
-pub const OTHER: usize = 26;
+pub(crate) const OTHER: usize = 26;
 
 // An octave out of range is no octave here.
 fn octave_kind(octave: Octave) -> usize
