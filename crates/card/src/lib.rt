@@ -1,1 +1,2 @@
 // The catalogue card as definitions, in specs/, with their laws in proofs/: no code.
+#![tactic(auto)]

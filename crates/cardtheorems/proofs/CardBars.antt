@@ -20,7 +20,7 @@ use Rattle.theorems.proofs.Capacity.{Fits}
 use Rattle.card.specs.Fields.{each}
 use Rattle.card.specs.Card.{form1, head_tests, such_head, such_note, bar_tests, such_bar, note_count}
 use Rattle.card.specs.Card as card
-use Rattle.card.specs.Words.{note_words, key_words, head_words, bar_words, bar_cells, note_cells}
+use Rattle.card.specs.Words.{note_words, head_words, bar_words, bar_cells, note_cells}
 use Rattle.card.specs.Judged.{raised}
 use Rattle.card.proofs.SuchLaws.{raised-back}
 use Rattle.cardtheorems.proofs.Ranges.{IfSome, else-in, FifthsIn, ClefIn, MeterIn, NoteIn, BarIn}

@@ -9,7 +9,6 @@ use borrow.Author.Tests.{le-leb, lt-ltb}
 use lib.ListN.{length, take}
 use lib.Seq.{take_at}
 use Rattle.rules.specs.Limits.{note_size, bar_size, note_limit}
-use Rattle.rules.specs.Records.{Bar}
 use Rattle.rules.specs.Fields.{data_of}
 use Rattle.rules.specs.Words.{padded}
 use Rattle.rules.specs.Words as rules

@@ -1,5 +1,5 @@
 -- What the reading stores, and what it takes values from, is in range after every token. Assumes nothing.
-use Prim.Native.Nat.{ℕ, zero, suc, ◌-◌, ◌%◌, ◌≤◌}
+use Prim.Native.Nat.{ℕ, zero, suc, ◌%◌, ◌≤◌}
 use mathlib.Core.Path.{◌≡◌, refl}
 use mathlib.Core.Bool.{Bool, true, false, cond, ◌&&◌}
 use mathlib.Core.Option.{Option, none, some}
@@ -13,7 +13,7 @@ use Rattle.rules.specs.Limits.{octave_limit}
 use Rattle.rules.specs.Values.{treble, quarter, Clef}
 use Rattle.rules.specs.Tokens.{Figure, figure_mark, figure_repeat, bar_repeat, Marking, beam_open, beam_close, group_open, group_close, tie, trill, group_count, Token, Item, clef_in, key_in, meter_in, octave_in, duration_in, accidental_in, letter_in, is_rest, is_barline, right_in, left_in, figure_in, marking_in, whole_bars_in}
 use Rattle.rules.specs.Records.{◌or◌, is_some, is_empty, is_rest_kind, Pitch, Note, Bar}
-use Rattle.rules.specs.Rules.{fresh, in_its_bar, count_from, attribute_next, clef_given, fifths_given, meter_given, left_next, finished, close, alter_of, pitch_of, accidentals_next, ends_in_note, joins, opens, kind_of, length_of, heading, next_value, copied, repeated_bar, repeated, figure_next, plain, opened_note, rest_note, whole_bar_rest, stores, add_pitch, joined, with_notations, notations_next, counted, group_next, open_bar_next, step, further_bars, inner_barline, state_after, bars_at_end, Accidentals, Group, State, Attributes}
+use Rattle.rules.specs.Rules.{fresh, in_its_bar, count_from, attribute_next, clef_given, fifths_given, meter_given, left_next, finished, close, alter_of, pitch_of, accidentals_next, ends_in_note, joins, opens, kind_of, length_of, next_value, copied, repeated_bar, repeated, figure_next, plain, opened_note, rest_note, whole_bar_rest, stores, add_pitch, joined, with_notations, notations_next, counted, group_next, open_bar_next, step, further_bars, inner_barline, state_after, bars_at_end, Accidentals, Group, State, Attributes}
 use Rattle.rules.specs.Agreement.{All}
 use Rattle.text.proofs.BoolLaws.{both}
 use Rattle.theorems.proofs.Lists.{cond_ind, cond-case, given-ind, all-imp, all-++, all_map, all_take}

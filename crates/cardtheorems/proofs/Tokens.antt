@@ -12,7 +12,7 @@ use lib.IntN.{ℤ, pos}
 use lib.ListN.{length, take}
 use lib.Dec.{eqb, leb}
 use Rattle.rules.specs.Limits.{octave_limit, text_limit}
-use Rattle.rules.specs.Text.{bytes, is_digit, is_note_letter, run_length, every, Part}
+use Rattle.rules.specs.Text.{is_digit, is_note_letter, run_length, every, Part}
 use Rattle.rules.specs.Characters.{begun, continues, is_blank}
 use Rattle.rules.specs.Cut.{is_duration, token_size}
 use Rattle.rules.specs.Values.{step_of, clef_of, key_of, meter_of, count_of, whole_bars_of, raised_octave, lowered_octave, pattern_of, sharpened, flattened, Clef, Key, Meter, Length}

@@ -1,1 +1,2 @@
 // No code: every accepted reading has a card, proved of the rules and of the card.
+#![tactic(auto)]

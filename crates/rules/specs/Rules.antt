@@ -1,7 +1,7 @@
 -- What each token of the data does to the reading (specification, 5 to 11). The step gives each field of the state one expression,
 -- so that what a token leaves alone can be read off. Tokens, notes, bars, pitches and marks are lists with the latest first.
 -- Refusals and diagnostics are no part of the state (Refusals, Diagnostics). Assumes nothing.
-use Rattle.std.specs.Prelude.{ℕ, zero, suc, ◌+◌, ◌-◌, Bool, true, false, not, ◌&&◌, ◌||◌, List, [], ◌∷◌, ◌++◌, map, length, take, get_or, ℤ, pos, eqb, ltb, if◌then◌else◌}
+use Rattle.std.specs.Prelude.{ℕ, zero, suc, ◌-◌, Bool, true, false, not, ◌&&◌, ◌||◌, List, [], ◌∷◌, ◌++◌, map, length, take, get_or, ℤ, pos, eqb, ltb, if◌then◌else◌}
 use Rattle.std.proofs.Math.Option
 use Rattle.std.proofs.Math.Option.{Option, none, some}
 use Rattle.rules.specs.Values.{Meter, Length, treble, quarter, eighth, element, normal_of}

@@ -2,7 +2,7 @@
 use Rattle.std.specs.Prelude.{ℕ, zero, suc, ◌+◌, ◌-◌, ◌<◌, Bool, true, false, List, [], ◌∷◌, length, take, ℤ, pos, eqb, if◌then◌else◌}
 use Prim.Native.Char.{code}
 use Rattle.std.proofs.Math.Option.{Option, none, some}
-use Rattle.rules.specs.Text.{bytes, is_digit, is_note_letter, Part}
+use Rattle.rules.specs.Text.{is_digit, is_note_letter, Part}
 use Rattle.rules.specs.Characters.{begun, is_blank}
 use Rattle.rules.specs.Cut.{token_size}
 use Rattle.rules.specs.Values.{Clef, Key, Meter, Length, clef_of, key_of, meter_of, count_of, whole_bars_of, raised_octave, lowered_octave, pattern_of, sharpened, flattened, step_of}

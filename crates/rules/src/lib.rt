@@ -1,1 +1,2 @@
 // The specification as definitions, in specs/: no code.
+#![tactic(auto)]

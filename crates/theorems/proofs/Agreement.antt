@@ -47,7 +47,7 @@ one_place_lem (y₁ ∷ l₁) (y₂ ∷ l₂) x₁ x₂ e₁ e₂ h s q =
 -- ---- every stored pitch belongs to a letter
 
 letter-is : (t : Token) (n : ℕ) → letter_in t ≡ some n → t ≡ letter n
-letter-is t n = elim t [ clef c ↦ λ h. cc | key k ↦ λ h. cc | meter m ↦ λ h. cc | octave o ↦ λ h. cc | duration p ↦ λ h. cc | accidental a ↦ λ h. cc | letter s ↦ λ h. cc | chord ↦ λ h. cc | rest ↦ λ h. cc | barline r l ↦ λ h. cc | grace g ↦ λ h. cc | grace_group g ↦ λ h. cc | figure f ↦ λ h. cc | marking m ↦ λ h. cc | other o ↦ λ h. cc ]
+letter-is t n = elim t as (λ t. letter_in t ≡ some n → t ≡ letter n) [ clef c ↦ λ h. cc | key k ↦ λ h. cc | meter m ↦ λ h. cc | octave o ↦ λ h. cc | duration p ↦ λ h. cc | accidental a ↦ λ h. cc | letter s ↦ λ h. cc | chord ↦ λ h. cc | rest ↦ λ h. cc | barline r l ↦ λ h. cc | grace g ↦ λ h. cc | grace_group g ↦ λ h. cc | figure f ↦ λ h. cc | marking m ↦ λ h. cc | other o ↦ λ h. cc ]
 
 -- a letter token with its place, offset, size and step
 abbrev letter_at : ℕ → ℕ → ℕ → ℕ → Item

@@ -35,7 +35,7 @@ repeats t s = given (figure_in t) 0 (λ f. length (repeated f s))
 
 stores-count : (p : ℕ) (t : Token) (s : State) → length (cond (is_barline t) [] (stores p t s)) ≡ one-if (opens t s) + one-if (is_rest t) + one-if (is_some (whole_bars_in t)) + repeats t s
 unfolding one-if repeats
-stores-count p t s = elim t [ clef c ↦ refl | key k ↦ refl | meter m ↦ refl | octave o ↦ refl | duration q ↦ refl | accidental a ↦ refl | letter n ↦ note (not (joins s)) _ | chord ↦ refl | rest ↦ refl | barline r l ↦ refl | grace g ↦ refl | grace_group g ↦ refl | figure f ↦ length-map (repeated f s) (copied p) ∙ omega arith | marking m ↦ refl | other o ↦ whole (whole_bars_in (other o)) ]
+stores-count p t s = elim t as (λ t. length (cond (is_barline t) [] (stores p t s)) ≡ one-if (opens t s) + one-if (is_rest t) + one-if (is_some (whole_bars_in t)) + repeats t s) [ clef c ↦ refl | key k ↦ refl | meter m ↦ refl | octave o ↦ refl | duration q ↦ refl | accidental a ↦ refl | letter n ↦ note (not (joins s)) _ | chord ↦ refl | rest ↦ refl | barline r l ↦ refl | grace g ↦ refl | grace_group g ↦ refl | figure f ↦ length-map (repeated f s) (copied p) ∙ omega arith | marking m ↦ refl | other o ↦ whole (whole_bars_in (other o)) ]
   where
     note : (b : Bool) (r : Note) → length (cond b (r ∷ []) []) ≡ cond b 1 0 + 0 + 0 + 0
     note true r = refl
@@ -60,7 +60,7 @@ turns-count x s =
 -- what a token stores are copies, if it is an `f` or `i`, and else none is
 copies-one : (p : ℕ) (t : Token) (s : State) → length (keep (λ h. repeats_in t) (headings (cond (is_barline t) [] (stores p t s)))) ≡ repeats t s
 unfolding repeats
-copies-one p t s = elim t [ clef c ↦ refl | key k ↦ refl | meter m ↦ refl | octave o ↦ refl | duration q ↦ refl | accidental a ↦ refl | letter n ↦ note (not (joins s)) _ | chord ↦ refl | rest ↦ refl | barline r l ↦ refl | grace g ↦ refl | grace_group g ↦ refl | figure f ↦ of f | marking m ↦ refl | other o ↦ whole (whole_bars_in (other o)) ]
+copies-one p t s = elim t as (λ t. length (keep (λ h. repeats_in t) (headings (cond (is_barline t) [] (stores p t s)))) ≡ repeats t s) [ clef c ↦ refl | key k ↦ refl | meter m ↦ refl | octave o ↦ refl | duration q ↦ refl | accidental a ↦ refl | letter n ↦ note (not (joins s)) _ | chord ↦ refl | rest ↦ refl | barline r l ↦ refl | grace g ↦ refl | grace_group g ↦ refl | figure f ↦ of f | marking m ↦ refl | other o ↦ whole (whole_bars_in (other o)) ]
   where
     note : (b : Bool) (r : Note) → length (keep (λ h. false) (headings (cond b (r ∷ []) []))) ≡ 0
     note true r = refl

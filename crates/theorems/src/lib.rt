@@ -1,1 +1,2 @@
 // Theorems about the definitions of `rules`, in proofs/: no code.
+#![tactic(auto)]
