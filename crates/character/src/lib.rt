@@ -1,4 +1,6 @@
 // Characters of a text in UTF-8: whether it is well-formed; the size of a character, whether it is blank; counting and trimming them.
+#![tactic(auto)]
+
 ghost use Rattle.std.specs.Prelude.{◌≡◌, ◌+◌, ◌<◌, ◌≤◌, ◌%◌, cond, not, [], ◌∷◌, length, get_or, drop, leb};
 ghost use Rattle.rules.specs.Text.{run_length, has};
 ghost use Rattle.rules.specs.Characters.{within, within_one, tail, fits, formed_size, is_formed, continues, character_size, begun, characters_in, code_point, white_space, is_blank, in_blank, blanks_size, all_blank, non_blanks_size, trim_end};
@@ -91,6 +93,7 @@ fn begins_four(rest: &[u8], first: u8, last: u8, low: u8, high: u8) -> bool
 }
 
 // The size of the well-formed character at the start of `rest`, 0 where none stands there.
+#[tactic(auto, unfolding(rules::specs::Characters::formed_size))]
 fn formed_size(rest: &[u8]) -> usize
     ensures { result ≡ formed_size rest.now }
 {
@@ -274,6 +277,7 @@ pub fn is_low_blank(b: u8) -> bool
 }
 
 // Whether the character at the start of `rest`, which is not below 128, is blank.
+#[tactic(auto, unfolding(rules::specs::Characters::is_blank))]
 fn is_wide_blank(rest: &[u8]) -> bool
     requires { (0 < length rest.now) × (128 ≤ get_or rest.now 0 0) }
     ensures { result ≡ is_blank rest.now }

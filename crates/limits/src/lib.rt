@@ -1,9 +1,11 @@
 // The reading state, with the limits and the orders of sharps and flats.
+#![tactic(auto)]
+
 ghost use Rattle.std.specs.Prelude.{◌≡◌};
 ghost use Rattle.limits.specs.Pae.{fresh_pae};
 
 // What the open bar has, in the specification's words, 0 where it has none; and the alterations of the key last taken.
-#[derive(Drop)]
+#[derive(Clone, Copy)]
 pub struct Attributes {
     pub clef: u8,
     pub keyed: bool,
@@ -16,7 +18,7 @@ pub struct Attributes {
 }
 
 // What waits for the next letter or opened note, and the octave.
-#[derive(Drop)]
+#[derive(Clone, Copy)]
 pub struct Voice {
     pub octave: u8,
     // 3 means none
@@ -32,7 +34,7 @@ pub struct Voice {
 }
 
 // How many records are stored, the open bar's first, the last stored bar's first, and how many bars are stored.
-#[derive(Drop)]
+#[derive(Clone, Copy)]
 pub struct Counts {
     pub notes: usize,
     pub first: usize,
@@ -41,14 +43,14 @@ pub struct Counts {
 }
 
 // Where a group, beam or figure starts: the number of its bar, from 1, 0 where there is none; and the open bar's length.
-#[derive(Drop)]
+#[derive(Clone, Copy)]
 pub struct Start {
     pub bar: usize,
     pub from: usize,
 }
 
 // The starts that `!`, `{` and `(` noted, and the open group's count (256 means none).
-#[derive(Drop)]
+#[derive(Clone, Copy)]
 pub struct Groups {
     pub figure: Start,
     pub beam: Start,
@@ -56,7 +58,7 @@ pub struct Groups {
     pub count: u16,
 }
 
-#[derive(Drop)]
+#[derive(Clone, Copy)]
 pub struct Pae {
     pub attributes: Attributes,
     pub voice: Voice,

@@ -1,4 +1,6 @@
 // The bytes of a text: classes and runs, numbers, tokens, parts, lines and fields.
+#![tactic(auto)]
+
 mod number;
 
 ghost use Rattle.std.specs.Prelude.{◌≡◌, ◌+◌, ◌<◌, ◌≤◌, cond, true, [], ◌∷◌, length, get_or, drop, eqb};
@@ -29,7 +31,7 @@ const CHUNK: usize = 96;
 const NONE: u16 = 65535;
 
 // Classes of bytes.
-#[derive(Drop)]
+#[derive(Clone, Copy)]
 pub enum Class {
     Same(u8),
     Except(u8),
@@ -41,14 +43,14 @@ pub enum Class {
 }
 
 // A part of a text, by its offsets.
-#[derive(Drop)]
+#[derive(Clone, Copy)]
 pub struct Span {
     pub start: usize,
     pub end: usize,
 }
 
 // The keys of fields.
-#[derive(Drop)]
+#[derive(Clone, Copy)]
 pub enum FieldKey {
     Clef,
     Keysig,

@@ -1,5 +1,5 @@
 // What digits say: a number, 0 to 255, or none.
-#[derive(Drop)]
+#[derive(Clone, Copy)]
 pub enum Count {
     Number(u8),
     Refused,

@@ -3,3 +3,4 @@ pub mod SliceLaws
 pub mod DotLaws
 pub mod LengthLaws
 pub mod PatternLaws
+pub mod Sets

@@ -11,7 +11,7 @@ use character::{character_size, characters_in};
 use limits::Pae;
 use text::{Class, Count};
 
-#[derive(Drop)]
+#[derive(Clone, Copy)]
 pub enum Clef {
     Treble,
     Treble8vb,
@@ -24,20 +24,20 @@ pub enum Clef {
 }
 
 // The clef that a value names, if it names one.
-#[derive(Drop)]
+#[derive(Clone, Copy)]
 pub enum NamedClef {
     Known(Clef),
     Unknown,
 }
 
-#[derive(Drop)]
+#[derive(Clone, Copy)]
 pub struct ClefValue {
     pub clef: NamedClef,
     // a `+` stands in the middle
     pub mensural: bool,
 }
 
-#[derive(Drop)]
+#[derive(Clone, Copy)]
 pub struct Key {
     // for each step from C
     pub alters: [i8; 7],
@@ -47,14 +47,14 @@ pub struct Key {
 }
 
 // The nearest sign before a byte of a key's value: none, `x` or `b`.
-#[derive(Drop)]
+#[derive(Clone, Copy)]
 enum Sign {
     None,
     Sharp,
     Flat,
 }
 
-#[derive(Drop)]
+#[derive(Clone, Copy)]
 pub enum Meter {
     Set {
         numerator: u8,
@@ -143,6 +143,7 @@ fn is_mensural(value: &[u8]) -> bool
     characters_in(value) == 3
 }
 
+#[tactic(auto, using(crate::proofs::Sets::attributes_clef_of_facts))]
 pub fn clef_of(value: &[u8]) -> ClefValue
     ensures { clef_value result ≡ clef_of value.now }
 {
@@ -301,6 +302,7 @@ fn flat_fifths(n: usize) -> i8
     0 - (n as i8)
 }
 
+#[tactic(auto, using(crate::proofs::Sets::attributes_key_of_facts))]
 pub fn key_of(value: &[u8]) -> Key
     ensures { key_value result ≡ key_of value.now }
 {
@@ -372,6 +374,7 @@ fn plain_meter(numerator: Count, denominator: Count) -> Meter
     }
 }
 
+#[tactic(auto, using(crate::proofs::Sets::attributes_meter_of_facts))]
 pub fn meter_of(value: &[u8]) -> Meter
     ensures { meter_option result ≡ meter_of value.now }
 {

@@ -8,14 +8,14 @@ ghost use Rattle.values.specs.Rhythm.{octave_in, barline_in, kept_limit, element
 use limits::Pae;
 
 // The octave that a run of `'` or `,` sets, where it is 0 to 9.
-#[derive(Drop)]
+#[derive(Clone, Copy)]
 pub enum Octave {
     Set(u8),
     OutOfRange,
 }
 
 // A barline's right and left.
-#[derive(Drop)]
+#[derive(Clone, Copy)]
 pub struct Barline {
     pub right: u8,
     pub left: u8,
@@ -28,7 +28,7 @@ pub const KEPT: usize = 256;
 const QUARTER: u8 = 16;
 
 // A pattern of lengths: its first `count` ones are kept, and the others stand in the text, from `from` to `to`.
-#[derive(Drop)]
+#[derive(Clone, Copy)]
 pub struct Pattern {
     pub count: usize,
     pub from: usize,
@@ -36,14 +36,14 @@ pub struct Pattern {
 }
 
 // Where the next value is taken: the kept length `index`, or, past those, the element at the offset `at`.
-#[derive(Drop)]
+#[derive(Clone, Copy)]
 pub struct Cursor {
     pub index: usize,
     pub at: usize,
 }
 
 // The value taken, a duration, 0 to 9 for longa to 128th, and dots; and the cursor after it.
-#[derive(Drop)]
+#[derive(Clone, Copy)]
 pub struct Value {
     pub duration: u8,
     pub dots: u8,
@@ -51,7 +51,7 @@ pub struct Value {
 }
 
 // An element of a pattern: its length's code, and the offset behind it.
-#[derive(Drop)]
+#[derive(Clone, Copy)]
 struct Element {
     code: u8,
     end: usize,
@@ -217,6 +217,7 @@ fn value_of(code: u8, next: Cursor) -> Value
 
 impl Pattern {
     // Before any digit token: a quarter.
+    #[tactic(auto, unfolding(crate::specs::Rhythm::quarter_pattern))]
     pub fn new(kept: &mut [u8; KEPT]) -> Self
         ensures { keeping result kept.new ≡ quarter_pattern kept.old }
     {
@@ -229,6 +230,7 @@ impl Pattern {
     }
 
     // The element at `from` is kept.
+    #[tactic(auto, unfolding(crate::specs::Rhythm::with_element))]
     fn with_element(mut self, text: &[u8], kept: &mut [u8; KEPT]) -> Self
         requires { (self.count < kept_limit) × (self.from < self.to) × (self.to ≤ length text.now) }
         ensures { keeping result kept.new ≡ with_element text.now (keeping self kept.old) }
@@ -268,6 +270,7 @@ impl Pattern {
     }
 
     // Past the last value the pattern begins anew.
+    #[tactic(auto, unfolding(crate::specs::Rhythm::settled))]
     fn settled(self, cursor: Cursor) -> Cursor
         ensures { result ≡ settled self cursor }
     {
@@ -278,6 +281,7 @@ impl Pattern {
     }
 
     // The value at the cursor, and the cursor after it.
+    #[tactic(auto, unfolding(crate::specs::Rhythm::value_at))]
     pub fn value_at(self, text: &[u8], kept: &[u8; KEPT], cursor: Cursor) -> Value
         requires { Ready text.now self cursor }
         ensures { result ≡ value_at text.now (keeping self kept.now) cursor }
@@ -299,6 +303,7 @@ impl Pattern {
     }
 
     // The value at the cursor, which stays.
+    #[tactic(auto, unfolding(crate::specs::Rhythm::value_at))]
     pub fn value_here(self, text: &[u8], kept: &[u8; KEPT], cursor: Cursor) -> Value
         requires { Ready text.now self cursor }
         ensures { result ≡ staying cursor (length_in (value_at text.now (keeping self kept.now) cursor)) }
