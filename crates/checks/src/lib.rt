@@ -1,4 +1,6 @@
 // The checks at a token, before it does anything (S-2.7 to S-2.12), and at the end (12, 13).
+#![tactic(auto)]
+
 ghost use Rattle.std.specs.Prelude.{◌≡◌, true, ◌+◌, ◌*◌, ◌≤◌, ◌<◌, length};
 ghost use Rattle.rules.specs.Limits.{note_limit, note_size};
 ghost use Rattle.rules.specs.Characters.{characters_in};
@@ -16,7 +18,7 @@ use records::note::{MARK_COUNT, PITCH_COUNT, field};
 use steps::state::{count_from, has_content, reaches};
 
 // How many whole records are lent for notes, bars and the figure.
-#[derive(Drop)]
+#[derive(Clone, Copy)]
 pub struct Room {
     pub notes: usize,
     pub bars: usize,
@@ -24,7 +26,7 @@ pub struct Room {
 }
 
 // Where a reading stops at its end: the number of the check that fails, or 0, and the place.
-#[derive(Drop)]
+#[derive(Clone, Copy)]
 pub struct Stop {
     pub number: u8,
     pub place: u32,

@@ -1,4 +1,6 @@
 // What a token of the data is, by its bytes.
+#![tactic(auto)]
+
 ghost use Rattle.std.specs.Prelude.{◌≡◌, ℕ, ◌+◌, ◌<◌, List, ◌∷◌, length};
 ghost use Rattle.decode.specs.Decode.{Decoded, token_in, by_class, Fine};
 
@@ -9,7 +11,7 @@ use values::rhythm::{
 };
 
 // `!`, `f`, `i`.
-#[derive(Drop)]
+#[derive(Clone, Copy)]
 pub enum Figure {
     Mark,
     Repeat,
@@ -17,7 +19,7 @@ pub enum Figure {
 }
 
 // `{`, `}`, `(`, `;`, `)`, `+`, `t`.
-#[derive(Drop)]
+#[derive(Clone, Copy)]
 pub enum Marking {
     BeamOpen,
     BeamClose,
@@ -29,7 +31,7 @@ pub enum Marking {
 }
 
 // In the order of the published code. Values of `%`, `$`, `@`, `;` and digit tokens are read where they are used.
-#[derive(Drop)]
+#[derive(Clone, Copy)]
 pub enum Token {
     Clef,
     Key,
@@ -57,6 +59,7 @@ pub enum Token {
 }
 
 // A lone `:` (58), or the barline that begins with it.
+#[tactic(auto, unfolding(rules::specs::Tokens::token_of))]
 fn colon(size: usize) -> Token
     requires { 0 < size }
     ensures { (value : List ℕ) → size ≡ 1 + length value → Decoded 58 value result }
@@ -68,6 +71,7 @@ fn colon(size: usize) -> Token
 }
 
 // `q` (113) or `qq`.
+#[tactic(auto, unfolding(rules::specs::Tokens::token_of))]
 fn grace(size: usize) -> Token
     requires { 0 < size }
     ensures { (value : List ℕ) → size ≡ 1 + length value → Decoded 113 value result }
@@ -91,6 +95,7 @@ fn whole_bars(token: &[u8]) -> Token
 }
 
 // A token whose first byte is none of those in `decode` goes by the class of that byte, or of its character.
+#[tactic(auto, using(crate::proofs::Sets::by_class_facts))]
 fn by_class(token: &[u8]) -> Token
     requires { 0 < length token.now }
     ensures { (b : ℕ) (value : List ℕ) → token.now ≡ b ∷ value → (token_in b value result ≡ by_class b value) × Fine b result }

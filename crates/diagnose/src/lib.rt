@@ -1,4 +1,6 @@
 // What tokens and lines diagnose.
+#![tactic(auto)]
+
 ghost use Rattle.std.specs.Prelude.{◌≡◌, ◌<◌, [], ◌∷◌, map};
 ghost use Rattle.rules.specs.Records.{at_line, at_field, text_part};
 ghost use Rattle.rules.specs.Diagnostics.{diagnostic, clef_diagnosed, key_diagnosed, meter_diagnosed};
@@ -13,14 +15,14 @@ use records::{Line, Offset, Place};
 use values::attributes::{ClefValue, Key, Meter, NamedClef};
 
 // Where it is found.
-#[derive(Drop)]
+#[derive(Clone, Copy)]
 pub enum Where {
     Line(Line),
     Data(Place),
 }
 
 // None, one or two diagnostics, in their order.
-#[derive(Drop)]
+#[derive(Clone, Copy)]
 pub enum Found {
     Nothing,
     One(Diagnostic),

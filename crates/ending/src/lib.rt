@@ -1,4 +1,6 @@
 // What a reading ends with: its numbers, and every lent cell of a refusal 0.
+#![tactic(auto)]
+
 ghost use Rattle.std.specs.Prelude.{◌≡◌, ◌+◌, ◌*◌, ◌≤◌, true, length};
 ghost use Rattle.rules.specs.Limits.{note_limit, diagnostic_limit, bar_size};
 ghost use Rattle.rules.specs.Words.{zeros};
@@ -14,7 +16,7 @@ use steps::state::bar_counted;
 
 // The number of the refusal, 0 where the text is read, with its place; how many notes, bars and diagnostics are stored.
 #[repr(C)]
-#[derive(Drop)]
+#[derive(Clone, Copy)]
 pub struct Reading {
     pub number: u32,
     pub place: u32,

@@ -1,4 +1,6 @@
 // The checks at the entry, before the text is read.
+#![tactic(auto)]
+
 ghost use Rattle.std.specs.Prelude.{◌≡◌};
 ghost use Rattle.entry.specs.Entry.{entry_check};
 

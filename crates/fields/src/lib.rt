@@ -1,4 +1,6 @@
 // The field form: the lines of a text, what their fields set, and what they diagnose.
+#![tactic(auto)]
+
 ghost use Rattle.std.specs.Prelude.{◌≡◌, true, map, ◌<◌, ◌≤◌, length};
 ghost use Rattle.rules.specs.Limits.{text_limit};
 ghost use Rattle.rules.specs.Characters.{trim};
@@ -21,7 +23,7 @@ use text::{FieldKey, field_key, is_field, key_end, line_end, trim};
 use values::attributes::{clef_of, key_of, meter_of};
 
 // What the lines have set: the attributes, the data value, if there is one, by its offsets; and how many diagnostics are stored.
-#[derive(Drop)]
+#[derive(Clone, Copy)]
 pub struct Fields {
     pub attributes: Attributes,
     pub present: bool,

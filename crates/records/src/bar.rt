@@ -8,7 +8,7 @@ use super::cells::BAR;
 use super::words::write;
 
 // First note from 0, note count, clef (0 none), key set 0 or 1, fifths, meter (0, 0: none) with symbol, left and right.
-#[derive(Drop)]
+#[derive(Clone, Copy)]
 pub struct Bar {
     pub first: u32,
     pub count: u32,

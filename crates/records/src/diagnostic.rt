@@ -13,7 +13,7 @@ use super::{Line, Offset, Place};
 use limits::Pae;
 
 // Number; place kind (1 line, 2 line with field, 3 data), place; value kind (1 part of the text, 2 `()`, 3 a number), start, end.
-#[derive(Drop)]
+#[derive(Clone, Copy)]
 pub struct Diagnostic {
     number: i32,
     place_kind: i32,
@@ -24,7 +24,7 @@ pub struct Diagnostic {
 }
 
 // Where: a line, a line with a field, or a place in the data.
-#[derive(Drop)]
+#[derive(Clone, Copy)]
 enum At {
     Line(Line),
     Field(Line),
@@ -32,7 +32,7 @@ enum At {
 }
 
 // A part of the text, the value `()`, or a number.
-#[derive(Drop)]
+#[derive(Clone, Copy)]
 enum Value {
     Part(Offset, Offset),
     Parentheses,

@@ -11,21 +11,21 @@ use super::note::{ACTUAL, BEAM, KIND, NORMAL, add_mark, field};
 use super::words::{load, store, with_number};
 
 // The non-grace records of a part: how many, and the number of the last.
-#[derive(Drop)]
+#[derive(Clone, Copy)]
 pub struct Timed {
     pub count: usize,
     pub last: usize,
 }
 
 // What a group gives its non-grace records: a beam, of so many; a tuplet, actual and normal.
-#[derive(Drop)]
+#[derive(Clone, Copy)]
 pub enum Notation {
     Beam(usize),
     Tuplet(u8, u8),
 }
 
 // What a `)` makes of its group: nothing, a fermata, a tuplet of so many, or d11 with the number.
-#[derive(Drop)]
+#[derive(Clone, Copy)]
 pub enum Closing {
     Nothing,
     Fermata,

@@ -1,4 +1,6 @@
 // Note, bar and diagnostic records in lent cells.
+#![tactic(auto)]
+
 pub mod bar;
 pub mod cells;
 pub mod copy;
@@ -8,13 +10,13 @@ pub mod note;
 mod words;
 
 // A line's number, from 1.
-#[derive(Drop)]
+#[derive(Clone, Copy)]
 pub struct Line(pub u32);
 
 // A place in the data, from 1.
-#[derive(Drop)]
+#[derive(Clone, Copy)]
 pub struct Place(pub u32);
 
 // An offset in the text, from 0.
-#[derive(Drop)]
+#[derive(Clone, Copy)]
 pub struct Offset(pub u32);

@@ -37,7 +37,7 @@ pub const PITCH_COUNT: usize = 10;
 pub const BAR_NUMBER: usize = 11;
 
 // The place of the storing token; kind (0 note, 1 rest, 2 grace, 3 slashed grace, 4 whole-bar rest); duration; dots.
-#[derive(Drop)]
+#[derive(Clone, Copy)]
 pub struct Heading {
     pub place: Place,
     pub kind: u8,
@@ -46,7 +46,7 @@ pub struct Heading {
 }
 
 // The letter's place, step 0 to 6 from C, octave 0 to 9, alteration -2 to 2.
-#[derive(Drop)]
+#[derive(Clone, Copy)]
 pub struct Pitch {
     pub place: Place,
     pub step: u8,

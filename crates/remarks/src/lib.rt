@@ -1,4 +1,6 @@
 // What a token of the data diagnoses before it is taken.
+#![tactic(auto)]
+
 ghost use Rattle.std.specs.Prelude.{◌≡◌, [], ◌∷◌, map, ◌+◌, ◌-◌, ◌<◌, ◌≤◌};
 ghost use Rattle.text.specs.Counts.{number_in};
 ghost use Rattle.values.specs.Attributes.{clef_value, key_value, meter_option};
@@ -19,7 +21,7 @@ use text::Count;
 use values::attributes::{ClefValue, Key, Meter};
 
 // A token's place in the data, its offset in the text and its size.
-#[derive(Drop)]
+#[derive(Clone, Copy)]
 pub struct Span {
     pub place: Place,
     pub offset: Offset,
