@@ -28,7 +28,7 @@ use values::attributes::{clef_of, key_of, meter_of};
 use values::rhythm::{KEPT, Octave, Pattern};
 
 // How the walk ended: the number of the check that failed and its place, or 0, and the state.
-#[derive(Drop)]
+#[derive(Clone, Copy)]
 pub struct Outcome {
     pub number: u8,
     pub place: u32,

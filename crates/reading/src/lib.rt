@@ -1,4 +1,6 @@
 // Reads a text into the lent records.
+#![tactic(auto)]
+
 mod data; // data.rt: the walk over the data's tokens
 pub mod read; // read.rt: the whole reading
 mod rhythm; // rhythm.rt: the value that a token takes

@@ -11,7 +11,7 @@ use steps::bars::store_bar;
 use steps::{notes, state};
 
 // What they make of the state: the number of the check that failed, or 0; the counts; the open bar's attributes.
-#[derive(Drop)]
+#[derive(Clone, Copy)]
 pub struct Rested {
     pub number: u8,
     pub counts: Counts,

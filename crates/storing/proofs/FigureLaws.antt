@@ -9,7 +9,7 @@ use lib.ListN.{length, take, drop, length-append, length-map}
 use Rattle.rules.specs.Limits.{note_size, note_limit}
 use Rattle.rules.specs.Records.{Note, Bar}
 use Rattle.rules.specs.Rules.{copied, repeated_bar}
-use Rattle.rules.specs.Words.{cells, padded, note_words, in_bar}
+use Rattle.rules.specs.Words.{Numbered, cells, padded, note_words, in_bar}
 use Rattle.limits.specs.declared.Counts.{Counts}
 use Rattle.records.specs.Cells.{written}
 use Rattle.records.specs.Copies.{copies}
@@ -75,7 +75,7 @@ module _ {size : ℕ} {c : Counts} {notes : List ℤ} where
 
       says : written notes (c.notes * note_size) (copies place (c.bars + 1) held n) ≡ padded size (cells note_words (records_in (ns ++ o) bs))
       says =
-          rw (words, r.written, r.count, ← records.length-stored o bs, map-append, append_assoc)
+          rw (words, r.written, r.count, ← records.length-stored o bs, map-append (λ (note : Note). let r : Numbered = record { bar = b; note = note } in r) ns o, append_assoc)
           (padded-extended note_words note_size length-note size (in_bar b ns) (records_in o bs) (rw (records.length-stored o bs, length-map) (omega (arith, many, r.count))))
 
   -- '`i`, in an empty bar after a stored one, copies that bar's notes'
