@@ -12,7 +12,7 @@ use borrow.Author.Tests.{le-leb, lt-leb}
 use Rattle.rules.specs.Limits.{note_size, bar_size}
 use Rattle.rules.specs.Words.{zeros, padded}
 use Rattle.card.specs.Pieces.{number_in}
-use Rattle.card.specs.Card.{Bar, form1, note_count, such}
+use Rattle.card.specs.Card.{Bar, form1}
 use Rattle.card.specs.Words.{note_cells, bar_cells}
 use Rattle.card.specs.Answers.{HasCard, Read, ReadBack, read_refused}
 use Rattle.card.proofs.RecordLaws.{such-bars, length-note-cells, length-bar-cells}

@@ -4,4 +4,3 @@ pub mod HeadTaken
 pub mod CardTaken
 pub mod TakingLaws
 pub mod AnswerLaws
-pub mod ReaderWalk

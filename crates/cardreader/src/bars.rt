@@ -17,7 +17,7 @@ use cardparts::form::FIRST;
 use records::cells::{BAR, NOTE};
 
 // Whether it is such a card, and how many notes and bars it has.
-#[derive(Drop)]
+#[derive(Clone, Copy)]
 pub struct Taken {
     pub such: bool,
     pub notes: u32,

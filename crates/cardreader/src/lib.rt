@@ -1,4 +1,6 @@
 // A card read back into lent records.
+#![tactic(auto)]
+
 pub mod bars;
 pub mod field;
 pub mod head;

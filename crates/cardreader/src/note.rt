@@ -17,7 +17,7 @@ use cardparts::note::{capped, normal_word, put_note, such_note};
 use records::cells::FIRST_PITCH;
 
 // The fields of a note under its bits, and where its pitches stand.
-#[derive(Drop)]
+#[derive(Clone, Copy)]
 pub struct Under {
     pub kind: u8,
     pub ties: u8,

@@ -9,7 +9,7 @@ use records::cells::{BAR, NOTE, clear};
 
 // Of the reader: 0 where the card is read, else the refusal's number; how many notes and bars are stored.
 #[repr(C)]
-#[derive(Drop)]
+#[derive(Clone, Copy)]
 pub struct CardRead {
     pub number: u32,
     pub notes: u32,

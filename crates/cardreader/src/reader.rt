@@ -8,7 +8,7 @@ use super::field::four_at;
 use cardparts::field::byte_at;
 
 // A card's bytes and an offset in them.
-#[derive(Drop)]
+#[derive(Clone, Copy)]
 pub struct Reader<'a> {
     pub card: &'a [u8],
     pub at: usize,

@@ -17,7 +17,7 @@ use records::cells::{BAR, NOTE};
 
 // Of the writer: 0 where the card is written, else the refusal's number; how many bytes are written.
 #[repr(C)]
-#[derive(Drop)]
+#[derive(Clone, Copy)]
 pub struct CardWritten {
     pub number: u32,
     pub length: u32,
