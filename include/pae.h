@@ -4,7 +4,7 @@
  *
  * The functions work on your buffers: they allocate nothing, keep nothing between calls, so that any
  * number of threads may call at once, and write to no memory but your buffers and the stack, of which
- * a call takes less than PAE_STACK_BYTES (32 KB). Link libpae.a, which `rt staticlib pae` writes to
+ * a call takes less than PAE_STACK_BYTES (32 KB). Link libpae.a, which `tools/library` writes to
  * target/staticlib. C99 and C++11 or later.
  *
  * Texts are in UTF-8. Data places count the characters (Unicode scalar values) of the data from 1;

@@ -17,14 +17,14 @@ fn main() {
     println!("cargo::rustc-link-lib=static=pae");
     if !library.is_file() {
         println!(
-            "cargo::warning=there is no {}, so that nothing can be linked: run `rt staticlib pae` \
+            "cargo::warning=there is no {}, so that nothing can be linked: run `tools/library` \
              in the repository, or set {FOLDER_VARIABLE} to the folder that holds libpae.a",
             library.display()
         );
     }
 }
 
-/// The folder in the variable, else the one that `rt staticlib pae` writes to.
+/// The folder in the variable, else the one that `tools/library` writes to.
 fn library_folder() -> PathBuf {
     let named = env::var_os(FOLDER_VARIABLE).filter(|name| !name.is_empty());
     match named.map(PathBuf::from) {

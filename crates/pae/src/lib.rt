@@ -1,5 +1,7 @@
 // The public surface: reads a text into lent records and a lent list of diagnostics; writes records as a catalogue card, and reads it back;
 // says which reader this is.
+#![tactic(auto)]
+
 ghost use Rattle.std.specs.Prelude.{◌≡◌, ◌+◌, ◌*◌, ◌≤◌, length};
 ghost use Rattle.rules.specs.Limits.{diagnostic_size};
 ghost use Rattle.card.specs.Card.{form1};
@@ -26,7 +28,7 @@ const NEAR: usize = 64;
 
 // Number d1 to d20; place kind and place; value kind, start and end.
 #[repr(C)]
-#[derive(Drop)]
+#[derive(Clone, Copy)]
 pub struct Diagnostic {
     pub number: i32,
     pub place_kind: i32,
@@ -124,8 +126,7 @@ fn read_all(
 }
 
 // Reads a text of any bytes and any length into lent buffers of any length: a finished reading, or one refusal after which every lent cell is 0.
-#[unsafe(no_mangle)]
-pub extern "C" fn pae_read(
+pub fn pae_read(
     text: &[u8],
     notes: &mut [i32],
     bars: &mut [i32],
@@ -145,24 +146,21 @@ pub extern "C" fn pae_read(
 }
 
 // Writes the card of note and bar records that are exactly the lent slices: the card's bytes, or one refusal after which every lent byte is 0.
-#[unsafe(no_mangle)]
-pub extern "C" fn pae_write_card(notes: &[i32], bars: &[i32], card: &mut [u8]) -> CardWritten
+pub fn pae_write_card(notes: &[i32], bars: &[i32], card: &mut [u8]) -> CardWritten
     ensures { Written form1 notes.now bars.now (length card.old) (record { number = result.number; length = result.length; card = card.new }) }
 {
     write_card(notes, bars, card)
 }
 
 // Reads a card of any bytes and any length into lent records: the records whose card it is, or one refusal after which every lent cell is 0.
-#[unsafe(no_mangle)]
-pub extern "C" fn pae_read_card(card: &[u8], notes: &mut [i32], bars: &mut [i32]) -> CardRead
+pub fn pae_read_card(card: &[u8], notes: &mut [i32], bars: &mut [i32]) -> CardRead
     ensures { ReadBack form1 card.now (length notes.old) (length bars.old) (record { number = result.number; notes = result.notes; bars = result.bars; note_cells = notes.new; bar_cells = bars.new }) }
 {
     read_card(card, notes, bars)
 }
 
 // The reader's number.
-#[unsafe(no_mangle)]
-pub extern "C" fn pae_version() -> u32
+pub fn pae_version() -> u32
     ensures { result ≡ version }
 {
     VERSION
