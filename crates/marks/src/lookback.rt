@@ -9,7 +9,7 @@ use super::table::{
 };
 
 // What is sought, or where the search stops.
-#[derive(Drop)]
+#[derive(Clone, Copy)]
 pub enum Sought {
     Nothing,
     // an octave in range

@@ -1,6 +1,8 @@
 // What is diagnosed at a place of the data.
 use marks::cells::diagnostic_word;
 use rows::row::{say, say_number};
+use std::io;
+use std::io::Write;
 
 // Where a diagnostic's words stand.
 pub(crate) const NUMBER: usize = 0;
@@ -35,26 +37,32 @@ pub(crate) fn found_at(diagnostics: &[i32], count: u32, place: usize) -> u32 {
 }
 
 // The numbers of the diagnostics at a place, in brackets.
-pub(crate) fn say_found(diagnostics: &[i32], count: u32, place: usize) {
+pub(crate) fn say_found<W: Write>(
+    out: &mut W,
+    diagnostics: &[i32],
+    count: u32,
+    place: usize,
+) -> io::Result<()> {
     let mut said = false;
     let mut i: u32 = 0;
     while i < count {
         if is_at(diagnostics, i, place) {
-            say_one(said, diagnostic_word(diagnostics, i, NUMBER));
+            say_one(out, said, diagnostic_word(diagnostics, i, NUMBER))?;
             said = true;
         }
         i += 1;
     }
     if said {
-        say(b")");
+        say(out, b")")?;
     }
+    Ok(())
 }
 
-fn say_one(said: bool, number: u32) {
+fn say_one<W: Write>(out: &mut W, said: bool, number: u32) -> io::Result<()> {
     if said {
-        say(b", d");
+        say(out, b", d")?;
     } else {
-        say(b" (d");
+        say(out, b" (d")?;
     }
-    say_number(number as u64);
+    say_number(out, number as u64)
 }

@@ -16,176 +16,240 @@ use signs::sign::{
     say_barline_form, say_count_mark, say_octave_mark, say_pattern_mark, say_whole_bars_mark,
 };
 use signs::waiting::{say_chord_taker, say_grace_taker, say_open, say_sign_taker, say_tie_taker};
+use std::io;
+use std::io::Write;
 use values::attributes::Meter;
 use values::rhythm::{Barline, Octave};
 
 // ---- what is set for a bar
 
 // What is set at the start of a bar, and no bar follows.
-fn say_lost(table: &[usize], k: usize, count: usize, found: u32, accepted: bool) {
+fn say_lost<W: Write>(
+    out: &mut W,
+    table: &[usize],
+    k: usize,
+    count: usize,
+    found: u32,
+    accepted: bool,
+) -> io::Result<()> {
     if accepted & (found != 3) & (found != 5) & (found != 7) {
         if first_behind(table, k, count, Sought::Storing) == 0 {
-            say(b"; no bar follows, so it is lost");
+            say(out, b"; no bar follows, so it is lost")?;
         }
     }
+    Ok(())
 }
 
 // ---- signs and letters
 
-fn say_sign_mark(data: &[u8], table: &[usize], k: usize, count: usize, alter: i8) {
-    say_alteration(wide(alter));
-    say_sign_taker(data, table, k, count);
+fn say_sign_mark<W: Write>(
+    out: &mut W,
+    data: &[u8],
+    table: &[usize],
+    k: usize,
+    count: usize,
+    alter: i8,
+) -> io::Result<()> {
+    say_alteration(out, wide(alter))?;
+    say_sign_taker(out, data, table, k, count)
 }
 
 // `accepted`: the records tell whether it opened a note.
-fn say_letter_mark(table: &[usize], k: usize, step: u8, accepted: bool) {
-    say(b"letter ");
-    say_letter(step as u32);
+fn say_letter_mark<W: Write>(
+    out: &mut W,
+    table: &[usize],
+    k: usize,
+    step: u8,
+    accepted: bool,
+) -> io::Result<()> {
+    say(out, b"letter ")?;
+    say_letter(out, step as u32)?;
     if accepted {
         if stored_at(table, k) == 0 {
-            say(b", joins a chord");
+            say(out, b", joins a chord")?;
         }
     }
+    Ok(())
 }
 
-fn say_chord_mark(data: &[u8], table: &[usize], k: usize, count: usize, accepted: bool) {
-    say(b"chord");
+fn say_chord_mark<W: Write>(
+    out: &mut W,
+    data: &[u8],
+    table: &[usize],
+    k: usize,
+    count: usize,
+    accepted: bool,
+) -> io::Result<()> {
+    say(out, b"chord")?;
     if accepted {
-        say_chord_taker(data, table, k, count);
+        say_chord_taker(out, data, table, k, count)?;
     }
+    Ok(())
 }
 
 // ---- barlines
 
-fn say_barline_mark(table: &[usize], k: usize, count: usize, barline: Barline, accepted: bool) {
-    say(b"barline");
-    say_barline_form(barline);
+fn say_barline_mark<W: Write>(
+    out: &mut W,
+    table: &[usize],
+    k: usize,
+    count: usize,
+    barline: Barline,
+    accepted: bool,
+) -> io::Result<()> {
+    say(out, b"barline")?;
+    say_barline_form(out, barline)?;
     if barline.left == 2 {
-        say_lost(table, k, count, 0, accepted);
+        say_lost(out, table, k, count, 0, accepted)?;
     }
     if accepted {
         if 0 < k {
             if latest(table, k - 1, Sought::Storing, Sought::Barline) == 0 {
-                say(b"; the bar is empty and goes on");
+                say(out, b"; the bar is empty and goes on")?;
             }
         }
     }
+    Ok(())
 }
 
 // ---- graces, figures
 
-fn say_grace_mark(
+fn say_grace_mark<W: Write>(
+    out: &mut W,
     data: &[u8],
     table: &[usize],
     k: usize,
     count: usize,
     slashed: bool,
     accepted: bool,
-) {
+) -> io::Result<()> {
     if slashed {
-        say(b"slashed grace");
+        say(out, b"slashed grace")?;
     } else {
-        say(b"grace");
+        say(out, b"grace")?;
     }
     if accepted {
-        say_grace_taker(data, table, k, count);
+        say_grace_taker(out, data, table, k, count)?;
     }
+    Ok(())
 }
 
-fn say_grace_group_mark(starts: bool, found: u32, accepted: bool) {
+fn say_grace_group_mark<W: Write>(
+    out: &mut W,
+    starts: bool,
+    found: u32,
+    accepted: bool,
+) -> io::Result<()> {
     if starts {
-        say(b"grace group starts");
-        return;
+        say(out, b"grace group starts")?;
+        return Ok(());
     }
     if !accepted {
-        say(b"end of a grace group");
-        return;
+        say(out, b"end of a grace group")?;
+        return Ok(());
     }
     if found == 15 {
-        say(b"no grace group to end");
-        return;
+        say(out, b"no grace group to end")?;
+        return Ok(());
     }
-    say(b"grace group ends");
+    say(out, b"grace group ends")
 }
 
 // What ends, and where it was opened; in a later bar nothing is made of it. Whether it is the bar's own.
-fn say_ending(
+fn say_ending<W: Write>(
+    out: &mut W,
     words: &[u8],
     data: &[u8],
     table: &[usize],
     notes: &[i32],
     k: usize,
     opener: usize,
-) -> bool {
-    say(words);
-    say(b" ends, opened by ");
-    say_mark_at(data, table, opener);
+) -> io::Result<bool> {
+    say(out, words)?;
+    say(out, b" ends, opened by ")?;
+    say_mark_at(out, data, table, opener)?;
     if bar_at(table, notes, opener) != bar_at(table, notes, k) {
-        say(b" in an earlier bar: nothing is made of it");
-        return false;
+        say(out, b" in an earlier bar: nothing is made of it")?;
+        return Ok(false);
     }
-    true
+    Ok(true)
 }
 
-fn say_figure_start(table: &[usize], k: usize, count: usize) {
-    say(b"figure starts");
+fn say_figure_start<W: Write>(
+    out: &mut W,
+    table: &[usize],
+    k: usize,
+    count: usize,
+) -> io::Result<()> {
+    say(out, b"figure starts")?;
     if first_behind(table, k, count, Sought::FigureMark) == 0 {
-        say(b", and no ! follows");
+        say(out, b", and no ! follows")?;
     }
+    Ok(())
 }
 
-fn say_figure_end(data: &[u8], table: &[usize], notes: &[i32], k: usize, opener: usize) {
-    let own = say_ending(b"figure", data, table, notes, k, opener);
+fn say_figure_end<W: Write>(
+    out: &mut W,
+    data: &[u8],
+    table: &[usize],
+    notes: &[i32],
+    k: usize,
+    opener: usize,
+) -> io::Result<()> {
+    let own = say_ending(out, b"figure", data, table, notes, k, opener)?;
     if own & (records_at(table, k) == records_at(table, opener)) {
-        say(b": of no note");
+        say(out, b": of no note")?;
     }
+    Ok(())
 }
 
-fn say_figure_bound(
+fn say_figure_bound<W: Write>(
+    out: &mut W,
     data: &[u8],
     table: &[usize],
     notes: &[i32],
     k: usize,
     count: usize,
     accepted: bool,
-) {
+) -> io::Result<()> {
     let opener = opener_of(table, k, Closed::Figure);
     if opener == 0 {
-        say_figure_start(table, k, count);
-        return;
+        say_figure_start(out, table, k, count)?;
+        return Ok(());
     }
     if accepted {
-        say_figure_end(data, table, notes, k, opener);
-        return;
+        say_figure_end(out, data, table, notes, k, opener)?;
+        return Ok(());
     }
-    say(b"end of a figure");
+    say(out, b"end of a figure")
 }
 
-fn say_repeat(found: u32, accepted: bool) {
+fn say_repeat<W: Write>(out: &mut W, found: u32, accepted: bool) -> io::Result<()> {
     if !accepted {
-        say(b"repeat of a figure");
-        return;
+        say(out, b"repeat of a figure")?;
+        return Ok(());
     }
     if found == 18 {
-        say(b"no figure to repeat");
-        return;
+        say(out, b"no figure to repeat")?;
+        return Ok(());
     }
-    say(b"repeats the figure");
+    say(out, b"repeats the figure")
 }
 
-fn say_bar_repeat(found: u32, accepted: bool) {
+fn say_bar_repeat<W: Write>(out: &mut W, found: u32, accepted: bool) -> io::Result<()> {
     if !accepted {
-        say(b"repeat of a bar");
-        return;
+        say(out, b"repeat of a bar")?;
+        return Ok(());
     }
     if found == 19 {
-        say(b"no bar to repeat here");
-        return;
+        say(out, b"no bar to repeat here")?;
+        return Ok(());
     }
-    say(b"repeats the last bar");
+    say(out, b"repeats the last bar")
 }
 
-fn say_figure_mark(
+fn say_figure_mark<W: Write>(
+    out: &mut W,
     data: &[u8],
     table: &[usize],
     notes: &[i32],
@@ -194,110 +258,155 @@ fn say_figure_mark(
     which: Figure,
     found: u32,
     accepted: bool,
-) {
+) -> io::Result<()> {
     match which {
-        Figure::Mark => say_figure_bound(data, table, notes, k, count, accepted),
-        Figure::Repeat => say_repeat(found, accepted),
-        Figure::Bar => say_bar_repeat(found, accepted),
+        Figure::Mark => say_figure_bound(out, data, table, notes, k, count, accepted)?,
+        Figure::Repeat => say_repeat(out, found, accepted)?,
+        Figure::Bar => say_bar_repeat(out, found, accepted)?,
     }
+    Ok(())
 }
 
 // ---- beams, groups, ties, trills
 
-fn say_beam_start(data: &[u8], table: &[usize], k: usize, count: usize) {
-    say(b"beam starts");
+fn say_beam_start<W: Write>(
+    out: &mut W,
+    data: &[u8],
+    table: &[usize],
+    k: usize,
+    count: usize,
+) -> io::Result<()> {
+    say(out, b"beam starts")?;
     let other = first_behind(table, k, count, Sought::BeamOpen);
     let close = first_behind(table, k, count, Sought::BeamClose);
-    say_open(data, table, other, close, b", and no } follows");
+    say_open(out, data, table, other, close, b", and no } follows")
 }
 
-fn say_group_start(data: &[u8], table: &[usize], k: usize, count: usize) {
-    say(b"group starts");
+fn say_group_start<W: Write>(
+    out: &mut W,
+    data: &[u8],
+    table: &[usize],
+    k: usize,
+    count: usize,
+) -> io::Result<()> {
+    say(out, b"group starts")?;
     let other = first_behind(table, k, count, Sought::GroupOpen);
     let close = first_behind(table, k, count, Sought::GroupClose);
-    say_open(data, table, other, close, b", and no ) follows");
+    say_open(out, data, table, other, close, b", and no ) follows")
 }
 
-fn say_beam_end(data: &[u8], table: &[usize], notes: &[i32], k: usize, accepted: bool) {
+fn say_beam_end<W: Write>(
+    out: &mut W,
+    data: &[u8],
+    table: &[usize],
+    notes: &[i32],
+    k: usize,
+    accepted: bool,
+) -> io::Result<()> {
     let opener = opener_of(table, k, Closed::Beam);
     if !accepted {
-        say(b"end of a beam");
-        return;
+        say(out, b"end of a beam")?;
+        return Ok(());
     }
     if opener == 0 {
-        say(b"no beam to end");
-        return;
+        say(out, b"no beam to end")?;
+        return Ok(());
     }
-    let own = say_ending(b"beam", data, table, notes, k, opener);
+    let own = say_ending(out, b"beam", data, table, notes, k, opener)?;
     if own & (timed_between(table, notes, opener, k) < 2) {
-        say(b": of fewer than two no beam is made");
+        say(out, b": of fewer than two no beam is made")?;
     }
+    Ok(())
 }
 
 // What became of a group of the open bar: so many notes and rests, graces apart.
-fn say_grouped(data: &[u8], table: &[usize], notes: &[i32], opener: usize, k: usize, found: u32) {
+fn say_grouped<W: Write>(
+    out: &mut W,
+    data: &[u8],
+    table: &[usize],
+    notes: &[i32],
+    opener: usize,
+    k: usize,
+    found: u32,
+) -> io::Result<()> {
     if found == 11 {
-        say(b": of fewer than three no tuplet is made");
-        return;
+        say(out, b": of fewer than three no tuplet is made")?;
+        return Ok(());
     }
     let timed = timed_between(table, notes, opener, k);
     if timed == 0 {
-        say(b": without a note or rest, graces apart, nothing is made of it");
-        return;
+        say(
+            out,
+            b": without a note or rest, graces apart, nothing is made of it",
+        )?;
+        return Ok(());
     }
     if (timed == 1) & !has_count(data, table, opener, k) {
-        say(b": a fermata");
-        return;
+        say(out, b": a fermata")?;
+        return Ok(());
     }
-    say(b": a tuplet of ");
-    say_number(tuplet_between(table, notes, opener, k) as u64);
+    say(out, b": a tuplet of ")?;
+    say_number(out, tuplet_between(table, notes, opener, k) as u64)
 }
 
-fn say_group_end(
+fn say_group_end<W: Write>(
+    out: &mut W,
     data: &[u8],
     table: &[usize],
     notes: &[i32],
     k: usize,
     found: u32,
     accepted: bool,
-) {
+) -> io::Result<()> {
     let opener = opener_of(table, k, Closed::Group);
     if !accepted {
-        say(b"end of a group");
-        return;
+        say(out, b"end of a group")?;
+        return Ok(());
     }
     if opener == 0 {
-        say(b"no group to end");
-        return;
+        say(out, b"no group to end")?;
+        return Ok(());
     }
-    if say_ending(b"group", data, table, notes, k, opener) {
-        say_grouped(data, table, notes, opener, k, found);
+    if say_ending(out, b"group", data, table, notes, k, opener)? {
+        say_grouped(out, data, table, notes, opener, k, found)?;
     }
+    Ok(())
 }
 
-fn say_tie_mark(data: &[u8], table: &[usize], k: usize, count: usize, found: u32, accepted: bool) {
-    say(b"tie");
+fn say_tie_mark<W: Write>(
+    out: &mut W,
+    data: &[u8],
+    table: &[usize],
+    k: usize,
+    count: usize,
+    found: u32,
+    accepted: bool,
+) -> io::Result<()> {
+    say(out, b"tie")?;
     if found == 16 {
-        say(b", no note right before it in this bar");
-        return;
+        say(out, b", no note right before it in this bar")?;
+        return Ok(());
     }
     if accepted {
-        say_tie_taker(data, table, k, count);
+        say_tie_taker(out, data, table, k, count)?;
     }
+    Ok(())
 }
 
-fn say_trill_mark(found: u32, accepted: bool) {
-    say(b"trill");
+fn say_trill_mark<W: Write>(out: &mut W, found: u32, accepted: bool) -> io::Result<()> {
+    say(out, b"trill")?;
     if found == 14 {
-        say(b", no note or rest before it in this bar");
-        return;
+        say(out, b", no note or rest before it in this bar")?;
+        return Ok(());
     }
     if accepted {
-        say(b" on the last note or rest");
+        say(out, b" on the last note or rest")?;
     }
+    Ok(())
 }
 
-fn say_marking_mark(
+fn say_marking_mark<W: Write>(
+    out: &mut W,
     data: &[u8],
     table: &[usize],
     notes: &[i32],
@@ -307,16 +416,17 @@ fn say_marking_mark(
     value: &[u8],
     found: u32,
     accepted: bool,
-) {
+) -> io::Result<()> {
     match which {
-        Marking::BeamOpen => say_beam_start(data, table, k, count),
-        Marking::BeamClose => say_beam_end(data, table, notes, k, accepted),
-        Marking::GroupOpen => say_group_start(data, table, k, count),
-        Marking::GroupCount => say_count_mark(value, found),
-        Marking::GroupClose => say_group_end(data, table, notes, k, found, accepted),
-        Marking::Tie => say_tie_mark(data, table, k, count, found, accepted),
-        Marking::Trill => say_trill_mark(found, accepted),
+        Marking::BeamOpen => say_beam_start(out, data, table, k, count)?,
+        Marking::BeamClose => say_beam_end(out, data, table, notes, k, accepted)?,
+        Marking::GroupOpen => say_group_start(out, data, table, k, count)?,
+        Marking::GroupCount => say_count_mark(out, value, found)?,
+        Marking::GroupClose => say_group_end(out, data, table, notes, k, found, accepted)?,
+        Marking::Tie => say_tie_mark(out, data, table, k, count, found, accepted)?,
+        Marking::Trill => say_trill_mark(out, found, accepted)?,
     }
+    Ok(())
 }
 
 // ---- rows
@@ -331,7 +441,8 @@ fn is_attribute(token: Token) -> bool {
 }
 
 // What mark k is and what became of it; `mark` is its text, `found` the last diagnostic at it. Of so many marks.
-fn say_meaning(
+fn say_meaning<W: Write>(
+    out: &mut W,
     data: &[u8],
     table: &[usize],
     notes: &[i32],
@@ -340,20 +451,23 @@ fn say_meaning(
     mark: &[u8],
     found: u32,
     accepted: bool,
-)
+) -> io::Result<()>
     requires { 0 < length mark.now }
 {
     let token = token_at(data, table, k);
     if is_attribute(token) {
-        say_attribute(token, &mark[1..], found);
-        say_lost(table, k, count, found, accepted);
-        return;
+        say_attribute(out, token, &mark[1..], found)?;
+        say_lost(out, table, k, count, found, accepted)?;
+        return Ok(());
     }
-    say_other(data, table, notes, k, count, mark, found, accepted, token);
+    say_other(
+        out, data, table, notes, k, count, mark, found, accepted, token,
+    )
 }
 
 // A mark that sets nothing for a bar.
-fn say_other(
+fn say_other<W: Write>(
+    out: &mut W,
     data: &[u8],
     table: &[usize],
     notes: &[i32],
@@ -363,29 +477,44 @@ fn say_other(
     found: u32,
     accepted: bool,
     token: Token,
-)
+) -> io::Result<()>
     requires { 0 < length mark.now }
 {
     match token {
-        Token::Octave(o) => say_octave_mark(o),
-        Token::Duration => say_pattern_mark(mark),
-        Token::Accidental(a) => say_sign_mark(data, table, k, count, a),
-        Token::Letter(step) => say_letter_mark(table, k, step, accepted),
-        Token::Chord => say_chord_mark(data, table, k, count, accepted),
-        Token::Rest => say(b"rest"),
-        Token::WholeBars(bars) => say_whole_bars_mark(bars),
-        Token::BadCount => say(b"whole-bar rest, its count is not 1 to 1,000: nothing is stored"),
-        Token::Barline(b) => say_barline_mark(table, k, count, b, accepted),
-        Token::Grace(g) => say_grace_mark(data, table, k, count, g, accepted),
-        Token::GraceGroup(g) => say_grace_group_mark(g, found, accepted),
-        Token::Figure(f) => say_figure_mark(data, table, notes, k, count, f, found, accepted),
+        Token::Octave(o) => say_octave_mark(out, o)?,
+        Token::Duration => say_pattern_mark(out, mark)?,
+        Token::Accidental(a) => say_sign_mark(out, data, table, k, count, a)?,
+        Token::Letter(step) => say_letter_mark(out, table, k, step, accepted)?,
+        Token::Chord => say_chord_mark(out, data, table, k, count, accepted)?,
+        Token::Rest => say(out, b"rest")?,
+        Token::WholeBars(bars) => say_whole_bars_mark(out, bars)?,
+        Token::BadCount => say(
+            out,
+            b"whole-bar rest, its count is not 1 to 1,000: nothing is stored",
+        )?,
+        Token::Barline(b) => say_barline_mark(out, table, k, count, b, accepted)?,
+        Token::Grace(g) => say_grace_mark(out, data, table, k, count, g, accepted)?,
+        Token::GraceGroup(g) => say_grace_group_mark(out, g, found, accepted)?,
+        Token::Figure(f) => say_figure_mark(out, data, table, notes, k, count, f, found, accepted)?,
         Token::Marking(m) => {
-            say_marking_mark(data, table, notes, k, count, m, &mark[1..], found, accepted)
+            say_marking_mark(
+                out,
+                data,
+                table,
+                notes,
+                k,
+                count,
+                m,
+                &mark[1..],
+                found,
+                accepted,
+            )?
         }
-        Token::Blank => say(b"blank"),
-        Token::Colon => say(b"a colon alone is no barline"),
-        _ => say(b"no rule for it"),
+        Token::Blank => say(out, b"blank")?,
+        Token::Colon => say(out, b"a colon alone is no barline")?,
+        _ => say(out, b"no rule for it")?,
     }
+    Ok(())
 }
 
 fn is_blank_mark(token: Token) -> bool {
@@ -396,7 +525,8 @@ fn is_blank_mark(token: Token) -> bool {
 }
 
 // A row for a mark. Blanks do nothing and have none.
-fn show_mark(
+fn show_mark<W: Write>(
+    out: &mut W,
     data: &[u8],
     table: &[usize],
     notes: &[i32],
@@ -405,9 +535,9 @@ fn show_mark(
     diagnostics: &[i32],
     diagnosed: u32,
     accepted: bool,
-) {
+) -> io::Result<()> {
     if is_blank_mark(token_at(data, table, k)) {
-        return;
+        return Ok(());
     }
     let start = start_of(table, k);
     let end = end_of(table, k);
@@ -415,11 +545,12 @@ fn show_mark(
         if end <= data.len() {
             let place = place_of(table, k);
             let found = found_at(diagnostics, diagnosed, place);
-            number_in(place as u64, 8);
-            say(b"  ");
-            part_in(data, start, end, 10);
-            say(b"  ");
+            number_in(out, place as u64, 8)?;
+            say(out, b"  ")?;
+            part_in(out, data, start, end, 10)?;
+            say(out, b"  ")?;
             say_meaning(
+                out,
                 data,
                 table,
                 notes,
@@ -428,15 +559,17 @@ fn show_mark(
                 &data[start..end],
                 found,
                 accepted,
-            );
-            say_found(diagnostics, diagnosed, place);
-            end_row();
+            )?;
+            say_found(out, diagnostics, diagnosed, place)?;
+            end_row(out)?;
         }
     }
+    Ok(())
 }
 
 // The second layer: so many marks; the diagnostics tell what became of them, and the records where the text is accepted.
-pub fn show_marks(
+pub fn show_marks<W: Write>(
+    out: &mut W,
     data: &[u8],
     table: &[usize],
     count: usize,
@@ -444,13 +577,14 @@ pub fn show_marks(
     diagnostics: &[i32],
     diagnosed: u32,
     accepted: bool,
-) {
-    say_heading(b"2. Its marks");
-    say_row(b"   place  mark        what it is");
+) -> io::Result<()> {
+    say_heading(out, b"2. Its marks")?;
+    say_row(out, b"   place  mark        what it is")?;
     let mut k = 0;
     while k < count {
         k += 1;
         show_mark(
+            out,
             data,
             table,
             notes,
@@ -459,6 +593,7 @@ pub fn show_marks(
             diagnostics,
             diagnosed,
             accepted,
-        );
+        )?;
     }
+    Ok(())
 }

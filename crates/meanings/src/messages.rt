@@ -7,6 +7,8 @@ use marks::say::say_mark_at;
 use marks::table::mark_at;
 use rows::row::{end_row, part_in, put, say, say_number, say_row, spaces};
 use rows::terms::say_place;
+use std::io;
+use std::io::Write;
 use text::begins_with;
 
 // Lines and their remarks stand behind a margin.
@@ -15,94 +17,116 @@ pub const MARGIN: usize = 10;
 // ---- what a diagnostic of the data means: mark k is at its place
 
 // The mark that stored the bar's last record.
-fn say_filled(data: &[u8], table: &[usize], k: usize) {
+fn say_filled<W: Write>(out: &mut W, data: &[u8], table: &[usize], k: usize) -> io::Result<()> {
     if 0 < k {
         let last = latest(table, k - 1, Sought::Storing, Sought::Barline);
-        say_mark_at(data, table, last);
+        say_mark_at(out, data, table, last)?;
     }
+    Ok(())
 }
 
-fn say_not_taken(data: &[u8], table: &[usize], k: usize) {
-    say(b"not taken: the bar has ");
-    say_filled(data, table, k);
-    say(b" already");
+fn say_not_taken<W: Write>(out: &mut W, data: &[u8], table: &[usize], k: usize) -> io::Result<()> {
+    say(out, b"not taken: the bar has ")?;
+    say_filled(out, data, table, k)?;
+    say(out, b" already")
 }
 
 // What is closed here was opened in an earlier bar.
-fn say_over_bar(
+fn say_over_bar<W: Write>(
+    out: &mut W,
     words: &[u8],
     data: &[u8],
     table: &[usize],
     notes: &[i32],
     k: usize,
     opener: usize,
-) {
-    say(words);
-    say_mark_at(data, table, opener);
-    say(b" opened in bar ");
-    say_number(bar_at(table, notes, opener));
-    say(b"; this is bar ");
-    say_number(bar_at(table, notes, k));
-    say(b", so nothing is made of it");
+) -> io::Result<()> {
+    say(out, words)?;
+    say_mark_at(out, data, table, opener)?;
+    say(out, b" opened in bar ")?;
+    say_number(out, bar_at(table, notes, opener))?;
+    say(out, b"; this is bar ")?;
+    say_number(out, bar_at(table, notes, k))?;
+    say(out, b", so nothing is made of it")
 }
 
-fn say_group_over_bar(data: &[u8], table: &[usize], notes: &[i32], k: usize) {
+fn say_group_over_bar<W: Write>(
+    out: &mut W,
+    data: &[u8],
+    table: &[usize],
+    notes: &[i32],
+    k: usize,
+) -> io::Result<()> {
     let opener = opener_of(table, k, Closed::Group);
     say_over_bar(
+        out,
         b"this closes the group that ",
         data,
         table,
         notes,
         k,
         opener,
-    );
+    )
 }
 
-fn say_figure_over_bar(data: &[u8], table: &[usize], notes: &[i32], k: usize) {
+fn say_figure_over_bar<W: Write>(
+    out: &mut W,
+    data: &[u8],
+    table: &[usize],
+    notes: &[i32],
+    k: usize,
+) -> io::Result<()> {
     let opener = opener_of(table, k, Closed::Figure);
     say_over_bar(
+        out,
         b"this closes the figure that ",
         data,
         table,
         notes,
         k,
         opener,
-    );
+    )
 }
 
-fn say_no_repeat(data: &[u8], table: &[usize], k: usize) {
+fn say_no_repeat<W: Write>(out: &mut W, data: &[u8], table: &[usize], k: usize) -> io::Result<()> {
     if 0 < k {
         let last = latest(table, k - 1, Sought::Storing, Sought::Barline);
         if 0 < last {
-            say(b"i repeats the last bar at a bar's start only, and this bar has ");
-            say_mark_at(data, table, last);
-            say(b" already");
-            return;
+            say(
+                out,
+                b"i repeats the last bar at a bar's start only, and this bar has ",
+            )?;
+            say_mark_at(out, data, table, last)?;
+            say(out, b" already")?;
+            return Ok(());
         }
     }
-    say(b"there is no bar before it to repeat");
+    say(out, b"there is no bar before it to repeat")
 }
 
 // A tie needs a note of the open bar right before it.
-fn say_no_tie(table: &[usize], k: usize) {
+fn say_no_tie<W: Write>(out: &mut W, table: &[usize], k: usize) -> io::Result<()> {
     if 0 < k {
         if 0 < latest(table, k - 1, Sought::Storing, Sought::Barline) {
-            say(b"a rest stands before it, which can't be tied");
-            return;
+            say(out, b"a rest stands before it, which can't be tied")?;
+            return Ok(());
         }
     }
-    say(b"this bar has no note before it; a + stands right after its note, before the barline");
+    say(
+        out,
+        b"this bar has no note before it; a + stands right after its note, before the barline",
+    )
 }
 
-fn say_no_figure(data: &[u8], table: &[usize], k: usize) {
+fn say_no_figure<W: Write>(out: &mut W, data: &[u8], table: &[usize], k: usize) -> io::Result<()> {
     let opener = opener_of(table, k, Closed::Figure);
     if opener == 0 {
-        say(b"there is no figure to repeat");
-        return;
+        say(out, b"there is no figure to repeat")?;
+        return Ok(());
     }
-    say(b"the figure that ");
-    say_mark_at(data, table, opener);
-    say(b" opened is not closed yet");
+    say(out, b"the figure that ")?;
+    say_mark_at(out, data, table, opener)?;
+    say(out, b" opened is not closed yet")
 }
 
 // Whether a sign is a quote or an accent that looks like `'`.
@@ -131,87 +155,119 @@ fn looks_like_letter(sign: &[u8]) -> bool {
         | begins_with(sign, b"H")
 }
 
-fn say_no_rule(sign: &[u8]) {
+fn say_no_rule<W: Write>(out: &mut W, sign: &[u8]) -> io::Result<()> {
     if begins_with(sign, b"r") {
-        say(b"r ends a grace group, and none is open");
-        return;
+        say(out, b"r ends a grace group, and none is open")?;
+        return Ok(());
     }
-    say(b"no rule for this sign");
+    say(out, b"no rule for this sign")?;
     if looks_like_quote(sign) {
-        say(b"; the octave sign is the straight quote '");
+        say(out, b"; the octave sign is the straight quote '")?;
     }
     if looks_like_rest(sign) {
-        say(b"; the rest is the hyphen -");
+        say(out, b"; the rest is the hyphen -")?;
     }
     if looks_like_letter(sign) {
-        say(b"; the letters are the capitals A to G");
+        say(out, b"; the letters are the capitals A to G")?;
     }
+    Ok(())
 }
 
 // Diagnostics 10 to 20.
-fn say_later(number: u32, data: &[u8], table: &[usize], notes: &[i32], k: usize, sign: &[u8]) {
-    match number {
-        10 => say_group_over_bar(data, table, notes, k),
-        11 => say(b"a tuplet has three or more; the group is left as it is"),
-        12 => say(b"a count needs an open ( and digits for 0 to 255"),
-        13 => say(b"no ( is open"),
-        14 => say(b"the bar has no note or rest for it yet"),
-        15 => say_no_rule(sign),
-        16 => say_no_tie(table, k),
-        17 => say_figure_over_bar(data, table, notes, k),
-        18 => say_no_figure(data, table, k),
-        19 => say_no_repeat(data, table, k),
-        _ => say(b"the count of bars must be 1 to 1,000; no rest is stored"),
-    }
-}
-
-// What a diagnostic of the data means; `sign` is its value.
-fn say_data_diagnosis(
+fn say_later<W: Write>(
+    out: &mut W,
     number: u32,
     data: &[u8],
     table: &[usize],
     notes: &[i32],
     k: usize,
     sign: &[u8],
-) {
+) -> io::Result<()> {
     match number {
-        3 => say_not_taken(data, table, k),
-        4 => say(b"a mensural clef, read as the modern one"),
-        5 => say(b"no clef has this name; it sets none, and one that was set before it stays"),
-        6 => say(b"no standard key; what follows an x or b in it is altered all the same"),
-        7 => say(b"no meter has this form; it sets none, and one that was set before it stays"),
-        8 => say(b"outside octaves 0 to 9; the old octave stays"),
-        9 => say(b"a colon alone is no barline"),
-        _ => say_later(number, data, table, notes, k, sign),
+        10 => say_group_over_bar(out, data, table, notes, k)?,
+        11 => say(
+            out,
+            b"a tuplet has three or more; the group is left as it is",
+        )?,
+        12 => say(out, b"a count needs an open ( and digits for 0 to 255")?,
+        13 => say(out, b"no ( is open")?,
+        14 => say(out, b"the bar has no note or rest for it yet")?,
+        15 => say_no_rule(out, sign)?,
+        16 => say_no_tie(out, table, k)?,
+        17 => say_figure_over_bar(out, data, table, notes, k)?,
+        18 => say_no_figure(out, data, table, k)?,
+        19 => say_no_repeat(out, data, table, k)?,
+        _ => say(
+            out,
+            b"the count of bars must be 1 to 1,000; no rest is stored",
+        )?,
     }
+    Ok(())
+}
+
+// What a diagnostic of the data means; `sign` is its value.
+fn say_data_diagnosis<W: Write>(
+    out: &mut W,
+    number: u32,
+    data: &[u8],
+    table: &[usize],
+    notes: &[i32],
+    k: usize,
+    sign: &[u8],
+) -> io::Result<()> {
+    match number {
+        3 => say_not_taken(out, data, table, k)?,
+        4 => say(out, b"a mensural clef, read as the modern one")?,
+        5 => say(
+            out,
+            b"no clef has this name; it sets none, and one that was set before it stays",
+        )?,
+        6 => say(
+            out,
+            b"no standard key; what follows an x or b in it is altered all the same",
+        )?,
+        7 => say(
+            out,
+            b"no meter has this form; it sets none, and one that was set before it stays",
+        )?,
+        8 => say(out, b"outside octaves 0 to 9; the old octave stays")?,
+        9 => say(out, b"a colon alone is no barline")?,
+        _ => say_later(out, number, data, table, notes, k, sign)?,
+    }
+    Ok(())
 }
 
 // What a diagnostic of a line means.
-fn say_line_diagnosis(number: u32) {
+fn say_line_diagnosis<W: Write>(out: &mut W, number: u32) -> io::Result<()> {
     match number {
-        1 => say(b"this line is no field, it is not read"),
-        2 => say(b"no field with this name is read"),
-        4 => say(b"a mensural clef, read as the modern one"),
-        5 => say(b"no clef has this name; the line sets none"),
-        6 => say(b"no standard key; what follows an x or b in it is altered all the same"),
-        _ => say(b"no meter has this form; the line sets none"),
+        1 => say(out, b"this line is no field, it is not read")?,
+        2 => say(out, b"no field with this name is read")?,
+        4 => say(out, b"a mensural clef, read as the modern one")?,
+        5 => say(out, b"no clef has this name; the line sets none")?,
+        6 => say(
+            out,
+            b"no standard key; what follows an x or b in it is altered all the same",
+        )?,
+        _ => say(out, b"no meter has this form; the line sets none")?,
     }
+    Ok(())
 }
 
 // ---- rows
 
 // The value that a diagnostic names.
-fn say_value(text: &[u8], diagnostics: &[i32], i: u32) {
+fn say_value<W: Write>(out: &mut W, text: &[u8], diagnostics: &[i32], i: u32) -> io::Result<()> {
     let start = diagnostic_word(diagnostics, i, START);
     let kind = diagnostic_word(diagnostics, i, VALUE_KIND);
     match kind {
         1 => {
             let end = diagnostic_word(diagnostics, i, END);
-            part_in(text, start as usize, end as usize, 0);
+            part_in(out, text, start as usize, end as usize, 0)?;
         }
-        2 => say(b"()"),
-        _ => say_number(start as u64),
+        2 => say(out, b"()")?,
+        _ => say_number(out, start as u64)?,
     }
+    Ok(())
 }
 
 // Whether diagnostic i is about a clef or meter without a value.
@@ -222,7 +278,8 @@ fn is_bare(diagnostics: &[i32], i: u32) -> bool {
 }
 
 // The meaning of a diagnostic whose value stands between two offsets of the text.
-fn say_meaning_of(
+fn say_meaning_of<W: Write>(
+    out: &mut W,
     text: &[u8],
     data: &[u8],
     table: &[usize],
@@ -230,15 +287,15 @@ fn say_meaning_of(
     notes: &[i32],
     diagnostics: &[i32],
     i: u32,
-) {
+) -> io::Result<()> {
     let number = diagnostic_word(diagnostics, i, NUMBER);
     if is_bare(diagnostics, i) {
-        say(b"it has no value, so nothing is set");
-        return;
+        say(out, b"it has no value, so nothing is set")?;
+        return Ok(());
     }
     if diagnostic_word(diagnostics, i, PLACE_KIND) != 3 {
-        say_line_diagnosis(number);
-        return;
+        say_line_diagnosis(out, number)?;
+        return Ok(());
     }
     let k = mark_at(
         table,
@@ -248,24 +305,26 @@ fn say_meaning_of(
     );
     let start = diagnostic_word(diagnostics, i, START) as usize;
     if start <= text.len() {
-        say_data_diagnosis(number, data, table, notes, k, &text[start..]);
+        say_data_diagnosis(out, number, data, table, notes, k, &text[start..])?;
     }
+    Ok(())
 }
 
 // Where a diagnostic stands: a line or a place.
-fn say_position(diagnostics: &[i32], i: u32) {
+fn say_position<W: Write>(out: &mut W, diagnostics: &[i32], i: u32) -> io::Result<()> {
     let place = diagnostic_word(diagnostics, i, PLACE) as usize;
     if diagnostic_word(diagnostics, i, PLACE_KIND) == 3 {
-        say(b" at ");
-        say_place(place);
-        return;
+        say(out, b" at ")?;
+        say_place(out, place)?;
+        return Ok(());
     }
-    say(b" in line ");
-    say_number(place as u64);
+    say(out, b" in line ")?;
+    say_number(out, place as u64)
 }
 
 // Diagnostic i as two rows; the data has so many marks.
-fn show_diagnostic(
+fn show_diagnostic<W: Write>(
+    out: &mut W,
     text: &[u8],
     data: &[u8],
     table: &[usize],
@@ -273,17 +332,17 @@ fn show_diagnostic(
     notes: &[i32],
     diagnostics: &[i32],
     i: u32,
-) {
-    spaces(0, MARGIN);
-    put(b'd');
-    say_number(diagnostic_word(diagnostics, i, NUMBER) as u64);
-    say_position(diagnostics, i);
-    say(b", `");
-    say_value(text, diagnostics, i);
-    say_row(b"`:");
-    spaces(0, MARGIN + 2);
-    say_meaning_of(text, data, table, marks, notes, diagnostics, i);
-    end_row();
+) -> io::Result<()> {
+    spaces(out, 0, MARGIN)?;
+    put(out, b'd')?;
+    say_number(out, diagnostic_word(diagnostics, i, NUMBER) as u64)?;
+    say_position(out, diagnostics, i)?;
+    say(out, b", `")?;
+    say_value(out, text, diagnostics, i)?;
+    say_row(out, b"`:")?;
+    spaces(out, 0, MARGIN + 2)?;
+    say_meaning_of(out, text, data, table, marks, notes, diagnostics, i)?;
+    end_row(out)
 }
 
 // Whether diagnostic i is one of a line (or, with `in_data`, of the data) and its place is above one number and at most another.
@@ -294,7 +353,8 @@ fn is_within(diagnostics: &[i32], i: u32, in_data: bool, above: usize, most: usi
 }
 
 // The diagnostics of a line or of a part of the data, as rows.
-pub fn show_diagnostics(
+pub fn show_diagnostics<W: Write>(
+    out: &mut W,
     text: &[u8],
     data: &[u8],
     table: &[usize],
@@ -305,12 +365,13 @@ pub fn show_diagnostics(
     in_data: bool,
     above: usize,
     most: usize,
-) {
+) -> io::Result<()> {
     let mut i: u32 = 0;
     while i < count {
         if is_within(diagnostics, i, in_data, above, most) {
-            show_diagnostic(text, data, table, marks, notes, diagnostics, i);
+            show_diagnostic(out, text, data, table, marks, notes, diagnostics, i)?;
         }
         i += 1;
     }
+    Ok(())
 }

@@ -8,7 +8,7 @@ use records::note::{ACTUAL, BAR_NUMBER, KIND};
 use text::Count;
 
 // What is closed.
-#[derive(Drop)]
+#[derive(Clone, Copy)]
 pub(crate) enum Closed {
     Group,
     Beam,

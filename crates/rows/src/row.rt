@@ -3,8 +3,9 @@ ghost use Rattle.std.specs.Prelude.{◌<◌, ◌≤◌, length};
 
 use super::characters::character_end;
 use character::{characters_in, is_blank, is_formed};
-use libc::STDOUT_FILENO;
 use show::byte_at;
+use std::io;
+use std::io::Write;
 
 // A longer part of a text is shown by so many characters.
 const SHOWN: usize = 32;
@@ -13,74 +14,69 @@ const SHOWN: usize = 32;
 const SPACES: usize = 16;
 
 // Writes words as they are.
-pub fn say(words: &[u8]) {
-    io::write_all(STDOUT_FILENO, words);
+pub fn say<W: Write>(out: &mut W, words: &[u8]) -> io::Result<()> {
+    out.write_all(words)
 }
 
 // One byte.
-pub fn put(b: u8) {
+pub fn put<W: Write>(out: &mut W, b: u8) -> io::Result<()> {
     let one = [b];
-    say(&one);
+    say(out, &one)
 }
 
 // The row ends.
-pub fn end_row() {
-    say(b"\n");
+pub fn end_row<W: Write>(out: &mut W) -> io::Result<()> {
+    say(out, b"\n")
 }
 
 // A row of these words alone.
-pub fn say_row(words: &[u8]) {
-    say(words);
-    end_row();
+pub fn say_row<W: Write>(out: &mut W, words: &[u8]) -> io::Result<()> {
+    say(out, words)?;
+    end_row(out)
 }
 
 // A heading between empty rows.
-pub fn say_heading(words: &[u8]) {
-    end_row();
-    say_row(words);
-    end_row();
+pub fn say_heading<W: Write>(out: &mut W, words: &[u8]) -> io::Result<()> {
+    end_row(out)?;
+    say_row(out, words)?;
+    end_row(out)
 }
 
 // ---- columns
 
 // Spaces from one column up to another.
-pub fn spaces(from: usize, to: usize) {
+pub fn spaces<W: Write>(out: &mut W, from: usize, to: usize) -> io::Result<()> {
     let mut at = from;
     while at < to {
         if SPACES <= to - at {
-            say(b"                ");
+            say(out, b"                ")?;
             at += SPACES;
         } else {
-            say(b" ");
+            say(out, b" ")?;
             at += 1;
         }
     }
+    Ok(())
 }
 
 // Words in at least so many columns.
-pub fn say_in(words: &[u8], columns: usize) {
-    say(words);
-    spaces(words.len(), columns);
+pub fn say_in<W: Write>(out: &mut W, words: &[u8], columns: usize) -> io::Result<()> {
+    say(out, words)?;
+    spaces(out, words.len(), columns)
 }
 
 // A number in at least so many columns, to the right.
-pub fn number_in(number: u64, columns: usize) {
-    let mut digits = [0u8; 20];
-    let size = io::decimal(number, &mut digits);
-    spaces(size, columns);
-    say(&digits[..size]);
+pub fn number_in<W: Write>(out: &mut W, number: u64, columns: usize) -> io::Result<()> {
+    write!(out, "{number:>columns$}")
 }
 
 // A number in at least so many columns, to the left.
-pub fn number_left(number: u64, columns: usize) {
-    let mut digits = [0u8; 20];
-    let size = io::decimal(number, &mut digits);
-    say(&digits[..size]);
-    spaces(size, columns);
+pub fn number_left<W: Write>(out: &mut W, number: u64, columns: usize) -> io::Result<()> {
+    write!(out, "{number:<columns$}")
 }
 
-pub fn say_number(number: u64) {
-    number_left(number, 0);
+pub fn say_number<W: Write>(out: &mut W, number: u64) -> io::Result<()> {
+    number_left(out, number, 0)
 }
 
 // ---- parts of a text
@@ -125,19 +121,20 @@ fn plain_end(part: &[u8], at: usize) -> usize
 }
 
 // A part of a text, character by character.
-pub fn say_text(part: &[u8]) {
+pub fn say_text<W: Write>(out: &mut W, part: &[u8]) -> io::Result<()> {
     let mut at = 0;
     while at < part.len() {
         let plain = plain_end(part, at);
         if plain == at {
             let end = character_end(part, at);
-            put(stand_in(&part[at..end]));
+            put(out, stand_in(&part[at..end]))?;
             at = end;
         } else {
-            say(&part[at..plain]);
+            say(out, &part[at..plain])?;
             at = plain;
         }
     }
+    Ok(())
 }
 
 // The end of the first characters, so many at most.
@@ -157,20 +154,27 @@ fn beginning(part: &[u8], most: usize) -> usize
 }
 
 // A part of a text, its beginning and `...` where it is long, in at least so many columns.
-pub fn say_part(part: &[u8], columns: usize) {
+pub fn say_part<W: Write>(out: &mut W, part: &[u8], columns: usize) -> io::Result<()> {
     let end = beginning(part, SHOWN);
-    say_text(&part[0..end]);
+    say_text(out, &part[0..end])?;
     if end < part.len() {
-        say(b"...");
+        say(out, b"...")?;
     }
-    spaces(characters_in(part), columns);
+    spaces(out, characters_in(part), columns)
 }
 
 // The part between two offsets.
-pub fn part_in(text: &[u8], start: usize, end: usize, columns: usize) {
+pub fn part_in<W: Write>(
+    out: &mut W,
+    text: &[u8],
+    start: usize,
+    end: usize,
+    columns: usize,
+) -> io::Result<()> {
     if start < end {
         if end <= text.len() {
-            say_part(&text[start..end], columns);
+            say_part(out, &text[start..end], columns)?;
         }
     }
+    Ok(())
 }

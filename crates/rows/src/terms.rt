@@ -2,6 +2,8 @@
 ghost use Rattle.std.specs.Prelude.{◌≡◌};
 
 use super::row::{put, say, say_in, say_number};
+use std::io;
+use std::io::Write;
 
 // The letter of a step from C.
 fn letter_of(step: u32) -> u8 {
@@ -16,8 +18,8 @@ fn letter_of(step: u32) -> u8 {
     }
 }
 
-pub fn say_letter(step: u32) {
-    put(letter_of(step));
+pub fn say_letter<W: Write>(out: &mut W, step: u32) -> io::Result<()> {
+    put(out, letter_of(step))
 }
 
 // A small signed number as a word holds it.
@@ -28,167 +30,184 @@ pub fn wide(number: i8) -> i32
 }
 
 // An alteration behind its letter.
-pub fn say_sign(alter: i32) {
+pub fn say_sign<W: Write>(out: &mut W, alter: i32) -> io::Result<()> {
     match alter {
-        2 => say(b"##"),
-        1 => say(b"#"),
-        -1 => say(b"b"),
-        -2 => say(b"bb"),
+        2 => say(out, b"##")?,
+        1 => say(out, b"#")?,
+        -1 => say(out, b"b")?,
+        -2 => say(out, b"bb")?,
         _ => {}
     }
+    Ok(())
 }
 
 // A pitch: letter, alteration, octave.
-pub fn say_pitch(step: u32, alter: i32, octave: u32) {
-    say_letter(step);
-    say_sign(alter);
-    say_number(octave as u64);
+pub fn say_pitch<W: Write>(out: &mut W, step: u32, alter: i32, octave: u32) -> io::Result<()> {
+    say_letter(out, step)?;
+    say_sign(out, alter)?;
+    say_number(out, octave as u64)
 }
 
 // An alteration in words.
-pub fn say_alteration(alter: i32) {
+pub fn say_alteration<W: Write>(out: &mut W, alter: i32) -> io::Result<()> {
     match alter {
-        2 => say(b"double sharp"),
-        1 => say(b"sharp"),
-        -1 => say(b"flat"),
-        -2 => say(b"double flat"),
-        _ => say(b"natural"),
+        2 => say(out, b"double sharp")?,
+        1 => say(out, b"sharp")?,
+        -1 => say(out, b"flat")?,
+        -2 => say(out, b"double flat")?,
+        _ => say(out, b"natural")?,
     }
+    Ok(())
 }
 
-pub fn say_duration(duration: u32, columns: usize) {
+pub fn say_duration<W: Write>(out: &mut W, duration: u32, columns: usize) -> io::Result<()> {
     match duration {
-        0 => say_in(b"longa", columns),
-        1 => say_in(b"breve", columns),
-        2 => say_in(b"whole", columns),
-        3 => say_in(b"half", columns),
-        4 => say_in(b"quarter", columns),
-        5 => say_in(b"eighth", columns),
-        6 => say_in(b"16th", columns),
-        7 => say_in(b"32nd", columns),
-        8 => say_in(b"64th", columns),
-        _ => say_in(b"128th", columns),
+        0 => say_in(out, b"longa", columns)?,
+        1 => say_in(out, b"breve", columns)?,
+        2 => say_in(out, b"whole", columns)?,
+        3 => say_in(out, b"half", columns)?,
+        4 => say_in(out, b"quarter", columns)?,
+        5 => say_in(out, b"eighth", columns)?,
+        6 => say_in(out, b"16th", columns)?,
+        7 => say_in(out, b"32nd", columns)?,
+        8 => say_in(out, b"64th", columns)?,
+        _ => say_in(out, b"128th", columns)?,
     }
+    Ok(())
 }
 
 // The dots of a length, a space before them.
-pub fn say_dots(dots: u32, columns: usize) {
+pub fn say_dots<W: Write>(out: &mut W, dots: u32, columns: usize) -> io::Result<()> {
     match dots {
-        0 => say_in(b"", columns),
-        1 => say_in(b" .", columns),
-        2 => say_in(b" ..", columns),
-        _ => say_in(b" ...", columns),
+        0 => say_in(out, b"", columns)?,
+        1 => say_in(out, b" .", columns)?,
+        2 => say_in(out, b" ..", columns)?,
+        _ => say_in(out, b" ...", columns)?,
     }
+    Ok(())
 }
 
 // The dots of a length in words.
-fn say_dotted(dots: u32) {
+fn say_dotted<W: Write>(out: &mut W, dots: u32) -> io::Result<()> {
     match dots {
         0 => {}
-        1 => say(b"dotted "),
-        2 => say(b"double-dotted "),
-        _ => say(b"triple-dotted "),
+        1 => say(out, b"dotted ")?,
+        2 => say(out, b"double-dotted ")?,
+        _ => say(out, b"triple-dotted ")?,
     }
+    Ok(())
 }
 
 // A length in words.
-pub fn say_length(duration: u32, dots: u32) {
-    say_dotted(dots);
-    say_duration(duration, 0);
+pub fn say_length<W: Write>(out: &mut W, duration: u32, dots: u32) -> io::Result<()> {
+    say_dotted(out, dots)?;
+    say_duration(out, duration, 0)
 }
 
-pub fn say_kind(kind: u32, columns: usize) {
+pub fn say_kind<W: Write>(out: &mut W, kind: u32, columns: usize) -> io::Result<()> {
     match kind {
-        0 => say_in(b"note", columns),
-        1 => say_in(b"rest", columns),
-        2 => say_in(b"grace", columns),
-        3 => say_in(b"slashed grace", columns),
-        _ => say_in(b"whole-bar rest", columns),
+        0 => say_in(out, b"note", columns)?,
+        1 => say_in(out, b"rest", columns)?,
+        2 => say_in(out, b"grace", columns)?,
+        3 => say_in(out, b"slashed grace", columns)?,
+        _ => say_in(out, b"whole-bar rest", columns)?,
     }
+    Ok(())
 }
 
 // A clef by its number, 0 none.
-pub fn say_clef(clef: u32, columns: usize) {
+pub fn say_clef<W: Write>(out: &mut W, clef: u32, columns: usize) -> io::Result<()> {
     match clef {
-        0 => say_in(b"-", columns),
-        1 => say_in(b"treble", columns),
-        2 => say_in(b"treble 8vb", columns),
-        3 => say_in(b"bass", columns),
-        4 => say_in(b"soprano", columns),
-        5 => say_in(b"mezzosoprano", columns),
-        6 => say_in(b"alto", columns),
-        7 => say_in(b"tenor", columns),
-        _ => say_in(b"baritone", columns),
+        0 => say_in(out, b"-", columns)?,
+        1 => say_in(out, b"treble", columns)?,
+        2 => say_in(out, b"treble 8vb", columns)?,
+        3 => say_in(out, b"bass", columns)?,
+        4 => say_in(out, b"soprano", columns)?,
+        5 => say_in(out, b"mezzosoprano", columns)?,
+        6 => say_in(out, b"alto", columns)?,
+        7 => say_in(out, b"tenor", columns)?,
+        _ => say_in(out, b"baritone", columns)?,
     }
+    Ok(())
 }
 
 // A key of flats by its fifths.
-fn say_flats(fifths: i32, columns: usize) {
+fn say_flats<W: Write>(out: &mut W, fifths: i32, columns: usize) -> io::Result<()> {
     match fifths {
-        -1 => say_in(b"1 flat", columns),
-        -2 => say_in(b"2 flats", columns),
-        -3 => say_in(b"3 flats", columns),
-        -4 => say_in(b"4 flats", columns),
-        -5 => say_in(b"5 flats", columns),
-        -6 => say_in(b"6 flats", columns),
-        _ => say_in(b"7 flats", columns),
+        -1 => say_in(out, b"1 flat", columns)?,
+        -2 => say_in(out, b"2 flats", columns)?,
+        -3 => say_in(out, b"3 flats", columns)?,
+        -4 => say_in(out, b"4 flats", columns)?,
+        -5 => say_in(out, b"5 flats", columns)?,
+        -6 => say_in(out, b"6 flats", columns)?,
+        _ => say_in(out, b"7 flats", columns)?,
     }
+    Ok(())
 }
 
 // A key by its fifths.
-pub fn say_fifths(fifths: i32, columns: usize) {
+pub fn say_fifths<W: Write>(out: &mut W, fifths: i32, columns: usize) -> io::Result<()> {
     match fifths {
-        0 => say_in(b"no signs", columns),
-        1 => say_in(b"1 sharp", columns),
-        2 => say_in(b"2 sharps", columns),
-        3 => say_in(b"3 sharps", columns),
-        4 => say_in(b"4 sharps", columns),
-        5 => say_in(b"5 sharps", columns),
-        6 => say_in(b"6 sharps", columns),
-        7 => say_in(b"7 sharps", columns),
-        _ => say_flats(fifths, columns),
+        0 => say_in(out, b"no signs", columns)?,
+        1 => say_in(out, b"1 sharp", columns)?,
+        2 => say_in(out, b"2 sharps", columns)?,
+        3 => say_in(out, b"3 sharps", columns)?,
+        4 => say_in(out, b"4 sharps", columns)?,
+        5 => say_in(out, b"5 sharps", columns)?,
+        6 => say_in(out, b"6 sharps", columns)?,
+        7 => say_in(out, b"7 sharps", columns)?,
+        _ => say_flats(out, fifths, columns)?,
     }
+    Ok(())
 }
 
 // So many of what the words name, in the singular.
-pub fn say_counted(count: u64, words: &[u8]) {
-    say_number(count);
-    put(b' ');
-    say(words);
+pub fn say_counted<W: Write>(out: &mut W, count: u64, words: &[u8]) -> io::Result<()> {
+    say_number(out, count)?;
+    put(out, b' ')?;
+    say(out, words)?;
     if count != 1 {
-        put(b's');
+        put(out, b's')?;
     }
+    Ok(())
 }
 
 // How a meter is drawn.
-pub fn say_symbol(symbol: u32) {
+pub fn say_symbol<W: Write>(out: &mut W, symbol: u32) -> io::Result<()> {
     match symbol {
         0 => {}
-        1 => say(b" common"),
-        _ => say(b" cut"),
+        1 => say(out, b" common")?,
+        _ => say(out, b" cut")?,
     }
+    Ok(())
 }
 
 // A meter, with its symbol.
-pub fn say_meter(numerator: u32, denominator: u32, symbol: u32) {
-    say_number(numerator as u64);
-    put(b'/');
-    say_number(denominator as u64);
-    say_symbol(symbol);
+pub fn say_meter<W: Write>(
+    out: &mut W,
+    numerator: u32,
+    denominator: u32,
+    symbol: u32,
+) -> io::Result<()> {
+    say_number(out, numerator as u64)?;
+    put(out, b'/')?;
+    say_number(out, denominator as u64)?;
+    say_symbol(out, symbol)
 }
 
 // The left or right of a bar.
-pub fn say_side(side: u32, columns: usize) {
+pub fn say_side<W: Write>(out: &mut W, side: u32, columns: usize) -> io::Result<()> {
     match side {
-        0 => say_in(b"plain", columns),
-        1 => say_in(b"double", columns),
-        2 => say_in(b"repeat starts", columns),
-        _ => say_in(b"repeat ends", columns),
+        0 => say_in(out, b"plain", columns)?,
+        1 => say_in(out, b"double", columns)?,
+        2 => say_in(out, b"repeat starts", columns)?,
+        _ => say_in(out, b"repeat ends", columns)?,
     }
+    Ok(())
 }
 
 // A place of the data.
-pub fn say_place(place: usize) {
-    say(b"place ");
-    say_number(place as u64);
+pub fn say_place<W: Write>(out: &mut W, place: usize) -> io::Result<()> {
+    say(out, b"place ")?;
+    say_number(out, place as u64)
 }

@@ -11,6 +11,8 @@ use records::cells::natural;
 use records::note::KIND;
 use rows::row::{end_row, number_in, number_left, put, say, say_heading, say_row, spaces};
 use rows::terms::{say_clef, say_fifths, say_meter, say_side};
+use std::io;
+use std::io::Write;
 use values::attributes::{NamedClef, clef_of};
 
 // Where a bar's words stand.
@@ -35,24 +37,24 @@ const LEFT: usize = 8;
 const RIGHT: usize = 9;
 
 // Whether no field sets a clef or key; and then, whether nobody sets one for the first bar.
-#[derive(Drop)]
+#[derive(Clone, Copy)]
 pub struct Defaults {
     pub clef: bool,
     pub key: bool,
 }
 
 // The first and the last note of a bar, counted from 1, in at least 11 columns.
-fn say_span(first: u32, count: u32) {
-    number_left(first as u64 + 1, 0);
+fn say_span<W: Write>(out: &mut W, first: u32, count: u32) -> io::Result<()> {
+    number_left(out, first as u64 + 1, 0)?;
     if count == 1 {
-        spaces(digits_in(first as u64 + 1), 11);
-        return;
+        spaces(out, digits_in(first as u64 + 1), 11)?;
+        return Ok(());
     }
-    say(b" to ");
+    say(out, b" to ")?;
     let last = first as u64 + count as u64;
-    number_left(last, 0);
-    spaces(digits_in(first as u64 + 1) + digits_in(last) + 4, 10);
-    put(b' ');
+    number_left(out, last, 0)?;
+    spaces(out, digits_in(first as u64 + 1) + digits_in(last) + 4, 10)?;
+    put(out, b' ')
 }
 
 // How many digits a number of up to five has.
@@ -75,30 +77,30 @@ fn digits_in(number: u64) -> usize
 }
 
 // The clef that a bar sets, if it sets one, in 14 columns.
-fn say_bar_clef(clef: u32, by_default: bool) {
+fn say_bar_clef<W: Write>(out: &mut W, clef: u32, by_default: bool) -> io::Result<()> {
     if by_default {
-        say_clef(clef, 0);
-        put(b'*');
-        spaces(7, 14);
-        return;
+        say_clef(out, clef, 0)?;
+        put(out, b'*')?;
+        spaces(out, 7, 14)?;
+        return Ok(());
     }
-    say_clef(clef, 14);
+    say_clef(out, clef, 14)
 }
 
 // The key that a bar sets, if it sets one, in 11 columns.
-fn say_bar_key(keyed: i32, fifths: i32, by_default: bool) {
+fn say_bar_key<W: Write>(out: &mut W, keyed: i32, fifths: i32, by_default: bool) -> io::Result<()> {
     if keyed == 0 {
-        put(b'-');
-        spaces(1, 11);
-        return;
+        put(out, b'-')?;
+        spaces(out, 1, 11)?;
+        return Ok(());
     }
     if by_default {
-        say_fifths(fifths, 0);
-        put(b'*');
-        spaces(9, 11);
-        return;
+        say_fifths(out, fifths, 0)?;
+        put(out, b'*')?;
+        spaces(out, 9, 11)?;
+        return Ok(());
     }
-    say_fifths(fifths, 11);
+    say_fifths(out, fifths, 11)
 }
 
 // How many columns the symbol of a meter takes.
@@ -113,42 +115,56 @@ fn symbol_columns(symbol: u32) -> usize
 }
 
 // The meter that a bar sets, if it sets one, in 13 columns.
-fn say_bar_meter(numerator: u32, denominator: u32, symbol: u32) {
+fn say_bar_meter<W: Write>(
+    out: &mut W,
+    numerator: u32,
+    denominator: u32,
+    symbol: u32,
+) -> io::Result<()> {
     if numerator == 0 {
-        put(b'-');
-        spaces(1, 13);
-        return;
+        put(out, b'-')?;
+        spaces(out, 1, 13)?;
+        return Ok(());
     }
-    say_meter(numerator, denominator, symbol);
+    say_meter(out, numerator, denominator, symbol)?;
     let digits = digits_in(numerator as u64) + digits_in(denominator as u64);
-    spaces(digits + 1 + symbol_columns(symbol), 12);
-    put(b' ');
+    spaces(out, digits + 1 + symbol_columns(symbol), 12)?;
+    put(out, b' ')
 }
 
-fn show_bar(bars: &[i32], number: u32, defaults: Defaults) {
-    number_in(number as u64 + 1, 6);
-    say(b"  ");
+fn show_bar<W: Write>(
+    out: &mut W,
+    bars: &[i32],
+    number: u32,
+    defaults: Defaults,
+) -> io::Result<()> {
+    number_in(out, number as u64 + 1, 6)?;
+    say(out, b"  ")?;
     say_span(
+        out,
         natural(bar_word(bars, number, FIRST)),
         natural(bar_word(bars, number, COUNT)),
-    );
+    )?;
     say_bar_clef(
+        out,
         natural(bar_word(bars, number, CLEF)),
         (number == 0) & defaults.clef,
-    );
+    )?;
     say_bar_key(
+        out,
         bar_word(bars, number, KEYED),
         bar_word(bars, number, FIFTHS),
         (number == 0) & defaults.key,
-    );
+    )?;
     say_bar_meter(
+        out,
         natural(bar_word(bars, number, NUMERATOR)),
         natural(bar_word(bars, number, DENOMINATOR)),
         natural(bar_word(bars, number, SYMBOL)),
-    );
-    say_side(natural(bar_word(bars, number, LEFT)), 15);
-    say_side(natural(bar_word(bars, number, RIGHT)), 0);
-    end_row();
+    )?;
+    say_side(out, natural(bar_word(bars, number, LEFT)), 15)?;
+    say_side(out, natural(bar_word(bars, number, RIGHT)), 0)?;
+    end_row(out)
 }
 
 // Whether a bar has the same word as the one before it.
@@ -243,7 +259,8 @@ fn left_to_default(data: &[u8], table: &[usize], marks: usize, unset: Defaults) 
 }
 
 // The fourth layer; the data has so many marks.
-pub fn show_bars(
+pub fn show_bars<W: Write>(
+    out: &mut W,
     bars: &[i32],
     count: u32,
     notes: &[i32],
@@ -251,15 +268,22 @@ pub fn show_bars(
     table: &[usize],
     marks: usize,
     unset: Defaults,
-) {
+) -> io::Result<()> {
     let defaults = left_to_default(data, table, marks, unset);
-    say_heading(b"4. The bars (-: nothing set here, *: set by nobody, so by default)");
-    say_row(b"   bar  notes      clef          key        meter        left           right");
+    say_heading(
+        out,
+        b"4. The bars (-: nothing set here, *: set by nobody, so by default)",
+    )?;
+    say_row(
+        out,
+        b"   bar  notes      clef          key        meter        left           right",
+    )?;
     let mut number: u32 = 0;
     while number < count {
-        show_bar(bars, number, defaults);
+        show_bar(out, bars, number, defaults)?;
         let next = number + 1;
         let end = same_end(bars, notes, next, count);
-        number = show_same(next, end, b": the same, a whole-bar rest each");
+        number = show_same(out, next, end, b": the same, a whole-bar rest each")?;
     }
+    Ok(())
 }

@@ -11,6 +11,8 @@ use rows::row::{
     end_row, number_left, put, say, say_heading, say_in, say_number, say_row, say_text, spaces,
 };
 use show::byte_at;
+use std::io;
+use std::io::Write;
 use text::line_end;
 
 // So many characters stand in a row.
@@ -22,7 +24,7 @@ const NAMED: usize = 8;
 // ---- pieces
 
 // A piece of a text: where it ends, and how many characters it has.
-#[derive(Drop)]
+#[derive(Clone, Copy)]
 struct Piece {
     end: usize,
     size: usize,
@@ -46,14 +48,14 @@ fn piece_from(text: &[u8], at: usize, most: usize) -> Piece
 }
 
 // The label of a line; a later piece of it, with number 0, has none.
-fn say_line_label(number: usize) {
+fn say_line_label<W: Write>(out: &mut W, number: usize) -> io::Result<()> {
     if number == 0 {
-        spaces(0, MARGIN);
-        return;
+        spaces(out, 0, MARGIN)?;
+        return Ok(());
     }
-    say(b"  line ");
-    number_left(number as u64, 2);
-    put(b' ');
+    say(out, b"  line ")?;
+    number_left(out, number as u64, 2)?;
+    put(out, b' ')
 }
 
 // ---- the ruler
@@ -98,20 +100,20 @@ fn whole_tens(most: usize) -> usize {
 }
 
 // The ruler of the places above one number and up to another.
-fn show_ruler(above: usize, most: usize) {
-    say_in(b"  place", MARGIN);
+fn show_ruler<W: Write>(out: &mut W, above: usize, most: usize) -> io::Result<()> {
+    say_in(out, b"  place", MARGIN)?;
     let mut i = above;
     while i < most {
-        put(tick(i));
+        put(out, tick(i))?;
         i += 1;
     }
-    end_row();
+    end_row(out)
 }
 
 // ---- the data
 
 // What came of the text: how many diagnostics there are, or a refusal, not 0, with its place.
-#[derive(Drop)]
+#[derive(Clone, Copy)]
 pub struct Outcome {
     pub diagnostics: u32,
     pub refusal: u32,
@@ -119,7 +121,8 @@ pub struct Outcome {
 }
 
 // A piece of the data with its ruler, and under it what is diagnosed or refused there. Its places are above one number and at most another.
-fn show_data_piece(
+fn show_data_piece<W: Write>(
+    out: &mut W,
     text: &[u8],
     data: &[u8],
     piece: &[u8],
@@ -130,14 +133,15 @@ fn show_data_piece(
     most: usize,
     diagnostics: &[i32],
     outcome: Outcome,
-) {
-    show_ruler(above, whole_tens(most));
-    say_in(b"  data", MARGIN);
-    say_text(piece);
-    end_row();
+) -> io::Result<()> {
+    show_ruler(out, above, whole_tens(most))?;
+    say_in(out, b"  data", MARGIN)?;
+    say_text(out, piece)?;
+    end_row(out)?;
     let count = outcome.diagnostics;
-    show_carets(diagnostics, count, outcome.place as usize, above, most);
+    show_carets(out, diagnostics, count, outcome.place as usize, above, most)?;
     show_diagnostics(
+        out,
         text,
         data,
         table,
@@ -148,11 +152,12 @@ fn show_data_piece(
         true,
         above,
         most,
-    );
+    )
 }
 
 // The data in pieces.
-fn show_data(
+fn show_data<W: Write>(
+    out: &mut W,
     text: &[u8],
     data: &[u8],
     table: &[usize],
@@ -160,7 +165,7 @@ fn show_data(
     notes: &[i32],
     diagnostics: &[i32],
     outcome: Outcome,
-) {
+) -> io::Result<()> {
     let mut above = 0;
     let mut at = 0;
     while at < data.len() {
@@ -168,6 +173,7 @@ fn show_data(
         let end = piece.end;
         let most = above + piece.size;
         show_data_piece(
+            out,
             text,
             data,
             &data[at..end],
@@ -178,10 +184,11 @@ fn show_data(
             most,
             diagnostics,
             outcome,
-        );
+        )?;
         above = most;
         at = end;
     }
+    Ok(())
 }
 
 // ---- line ends in the data
@@ -191,55 +198,63 @@ fn is_line_end(data: &[u8], table: &[usize], k: usize) -> bool {
     byte_at(data, start_of(table, k)) == 10
 }
 
-fn say_line_end(named: usize, place: usize) {
+fn say_line_end<W: Write>(out: &mut W, named: usize, place: usize) -> io::Result<()> {
     if named == 0 {
-        spaces(0, MARGIN);
-        say(b"line ends that are read as blanks, by place: ");
+        spaces(out, 0, MARGIN)?;
+        say(out, b"line ends that are read as blanks, by place: ")?;
     } else {
-        say(b", ");
+        say(out, b", ")?;
     }
-    say_number(place as u64);
+    say_number(out, place as u64)
 }
 
 // The places of the line ends that were read as blanks, the first of them; of so many marks.
-fn show_line_ends(data: &[u8], table: &[usize], marks: usize) {
+fn show_line_ends<W: Write>(
+    out: &mut W,
+    data: &[u8],
+    table: &[usize],
+    marks: usize,
+) -> io::Result<()> {
     let mut named = 0;
     let mut k = 0;
     while k < marks {
         k += 1;
         if is_line_end(data, table, k) {
             if named == NAMED {
-                say_row(b" ..");
-                return;
+                say_row(out, b" ..")?;
+                return Ok(());
             }
-            say_line_end(named, place_of(table, k));
+            say_line_end(out, named, place_of(table, k))?;
             named += 1;
         }
     }
     if 0 < named {
-        say_row(b" (--lines reads each line as a text of its own)");
+        say_row(out, b" (--lines reads each line as a text of its own)")?;
     }
+    Ok(())
 }
 
 // ---- the lines of the field form
 
 // A line in pieces.
-fn show_pieces(line: &[u8], number: usize) {
+fn show_pieces<W: Write>(out: &mut W, line: &[u8], number: usize) -> io::Result<()> {
     let mut label = number;
     let mut at = 0;
     while at < line.len() {
         let piece = piece_from(line, at, WIDTH);
         let end = piece.end;
-        say_line_label(label);
-        say_text(&line[at..end]);
-        end_row();
+        say_line_label(out, label)?;
+        say_text(out, &line[at..end])?;
+        end_row(out)?;
         label = 0;
         at = end;
     }
+    Ok(())
 }
 
 // The line between two offsets, with what is diagnosed there. Of the line that has the data only the beginning is shown here.
-fn show_line(
+fn show_line<W: Write>(
+    out: &mut W,
     text: &[u8],
     start: usize,
     end: usize,
@@ -247,22 +262,23 @@ fn show_line(
     data: usize,
     diagnostics: &[i32],
     count: u32,
-)
+) -> io::Result<()>
     requires { (start ≤ end) × (end ≤ length text.now) }
 {
     if number == 0 {
-        return;
+        return Ok(());
     }
     if start <= data {
         if data <= end {
-            show_pieces(&text[start..data], number);
-            return;
+            show_pieces(out, &text[start..data], number)?;
+            return Ok(());
         }
     }
-    show_pieces(&text[start..end], number);
+    show_pieces(out, &text[start..end], number)?;
     let none = [0usize; 1];
     let records = [0i32; 1];
     show_diagnostics(
+        out,
         text,
         text,
         &none,
@@ -273,7 +289,7 @@ fn show_line(
         false,
         number - 1,
         number,
-    );
+    )
 }
 
 // The end of the line that begins at `at`.
@@ -285,19 +301,27 @@ fn end_of_line(text: &[u8], at: usize) -> usize
 }
 
 // The lines of a text in field form, whose data stands at an offset.
-fn show_lines(text: &[u8], data: usize, diagnostics: &[i32], count: u32) {
+fn show_lines<W: Write>(
+    out: &mut W,
+    text: &[u8],
+    data: usize,
+    diagnostics: &[i32],
+    count: u32,
+) -> io::Result<()> {
     let mut number = 0;
     let mut at = 0;
     while at < text.len() {
         let end = end_of_line(text, at);
         number += 1;
-        show_line(text, at, end, number, data, diagnostics, count);
+        show_line(out, text, at, end, number, data, diagnostics, count)?;
         at = end + 1;
     }
+    Ok(())
 }
 
 // The first layer; the data stands at `start`.
-pub fn show_typed(
+pub fn show_typed<W: Write>(
+    out: &mut W,
     text: &[u8],
     data: &[u8],
     start: usize,
@@ -306,15 +330,16 @@ pub fn show_typed(
     notes: &[i32],
     diagnostics: &[i32],
     outcome: Outcome,
-) {
-    say_heading(b"1. The typed line");
+) -> io::Result<()> {
+    say_heading(out, b"1. The typed line")?;
     if in_field_form(text) {
-        show_lines(text, start, diagnostics, outcome.diagnostics);
-        end_row();
+        show_lines(out, text, start, diagnostics, outcome.diagnostics)?;
+        end_row(out)?;
     }
-    show_data(text, data, table, marks, notes, diagnostics, outcome);
-    show_line_ends(data, table, marks);
+    show_data(out, text, data, table, marks, notes, diagnostics, outcome)?;
+    show_line_ends(out, data, table, marks)?;
     if outcome.refusal != 0 {
-        show_refusal(text, outcome.refusal, outcome.place);
+        show_refusal(out, text, outcome.refusal, outcome.place)?;
     }
+    Ok(())
 }

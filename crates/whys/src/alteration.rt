@@ -6,6 +6,8 @@ use marks::say::say_mark_at;
 use marks::table::{WHOLE_BARS, end_of, kind_at, place_of, start_of, token_at};
 use rows::row::{end_row, put, say, say_number, say_row};
 use rows::terms::{say_alteration, say_place, wide};
+use std::io;
+use std::io::Write;
 use values::attributes::key_of;
 use values::rhythm::Octave;
 
@@ -28,16 +30,22 @@ pub(crate) fn octave_at(data: &[u8], table: &[usize], k: usize) -> u8 {
     }
 }
 
-pub(crate) fn show_octave(data: &[u8], table: &[usize], set: usize, octave: u8) {
-    say(b"    octave      ");
-    say_number(octave as u64);
+pub(crate) fn show_octave<W: Write>(
+    out: &mut W,
+    data: &[u8],
+    table: &[usize],
+    set: usize,
+    octave: u8,
+) -> io::Result<()> {
+    say(out, b"    octave      ")?;
+    say_number(out, octave as u64)?;
     if set == 0 {
-        say_row(b", as at the start");
-        return;
+        say_row(out, b", as at the start")?;
+        return Ok(());
     }
-    say(b", from ");
-    say_mark_at(data, table, set);
-    end_row();
+    say(out, b", from ")?;
+    say_mark_at(out, data, table, set)?;
+    end_row(out)
 }
 
 // ---- signs
@@ -122,7 +130,7 @@ fn latest_key(table: &[usize], from: usize) -> usize {
 // ---- alteration
 
 // Where a letter's alteration comes from.
-#[derive(Drop)]
+#[derive(Clone, Copy)]
 pub(crate) enum Cause {
     // its own sign
     Sign(usize),
@@ -192,51 +200,70 @@ pub(crate) fn alteration_by(
 }
 
 // That a key does not name the step.
-fn say_alone(alter: i8) {
+fn say_alone<W: Write>(out: &mut W, alter: i8) -> io::Result<()> {
     if alter == 0 {
-        say(b", which leaves it alone");
+        say(out, b", which leaves it alone")?;
     }
+    Ok(())
 }
 
-fn say_field_cause(line: usize, alter: i8) {
+fn say_field_cause<W: Write>(out: &mut W, line: usize, alter: i8) -> io::Result<()> {
     if line == 0 {
-        say(b", since no sign reaches it and no key was taken");
-        return;
+        say(out, b", since no sign reaches it and no key was taken")?;
+        return Ok(());
     }
-    say(b", from the keysig field in line ");
-    say_number(line as u64);
-    say_alone(alter);
+    say(out, b", from the keysig field in line ")?;
+    say_number(out, line as u64)?;
+    say_alone(out, alter)
 }
 
-fn say_key_cause(data: &[u8], table: &[usize], k: usize, alter: i8) {
-    say(b", from the key ");
-    say_mark_at(data, table, k);
-    say_alone(alter);
+fn say_key_cause<W: Write>(
+    out: &mut W,
+    data: &[u8],
+    table: &[usize],
+    k: usize,
+    alter: i8,
+) -> io::Result<()> {
+    say(out, b", from the key ")?;
+    say_mark_at(out, data, table, k)?;
+    say_alone(out, alter)
 }
 
-fn say_marked_cause(data: &[u8], table: &[usize], letter: usize) {
-    say(b", from ");
-    say_mark_at(data, table, letter);
-    say(b" in this bar (");
-    say_mark_at(data, table, sign_of(table, letter));
-    put(b')');
+fn say_marked_cause<W: Write>(
+    out: &mut W,
+    data: &[u8],
+    table: &[usize],
+    letter: usize,
+) -> io::Result<()> {
+    say(out, b", from ")?;
+    say_mark_at(out, data, table, letter)?;
+    say(out, b" in this bar (")?;
+    say_mark_at(out, data, table, sign_of(table, letter))?;
+    put(out, b')')
 }
 
-fn say_sign_cause(data: &[u8], table: &[usize], k: usize) {
-    say(b", from its own sign ");
-    say_mark_at(data, table, k);
+fn say_sign_cause<W: Write>(out: &mut W, data: &[u8], table: &[usize], k: usize) -> io::Result<()> {
+    say(out, b", from its own sign ")?;
+    say_mark_at(out, data, table, k)
 }
 
-pub(crate) fn show_alteration(cause: Cause, data: &[u8], table: &[usize], alter: i8, line: usize) {
-    say(b"    alteration  ");
-    say_alteration(wide(alter));
+pub(crate) fn show_alteration<W: Write>(
+    out: &mut W,
+    cause: Cause,
+    data: &[u8],
+    table: &[usize],
+    alter: i8,
+    line: usize,
+) -> io::Result<()> {
+    say(out, b"    alteration  ")?;
+    say_alteration(out, wide(alter))?;
     match cause {
-        Cause::Sign(k) => say_sign_cause(data, table, k),
-        Cause::Marked(letter) => say_marked_cause(data, table, letter),
-        Cause::Key(k) => say_key_cause(data, table, k, alter),
-        Cause::Field => say_field_cause(line, alter),
+        Cause::Sign(k) => say_sign_cause(out, data, table, k)?,
+        Cause::Marked(letter) => say_marked_cause(out, data, table, letter)?,
+        Cause::Key(k) => say_key_cause(out, data, table, k, alter)?,
+        Cause::Field => say_field_cause(out, line, alter)?,
     }
-    end_row();
+    end_row(out)
 }
 
 // ---- why not
@@ -257,36 +284,43 @@ fn has_own_sign(cause: Cause) -> bool {
 }
 
 // Where a sign ended: at a barline, or at one inside an `=`.
-fn say_end(data: &[u8], table: &[usize], barline: usize) {
+fn say_end<W: Write>(out: &mut W, data: &[u8], table: &[usize], barline: usize) -> io::Result<()> {
     if kind_at(table, barline) == WHOLE_BARS {
-        say(b" ended at the first barline inside ");
-        say_mark_at(data, table, barline);
-        return;
+        say(out, b" ended at the first barline inside ")?;
+        say_mark_at(out, data, table, barline)?;
+        return Ok(());
     }
-    say(b" ended at the barline at ");
-    say_place(place_of(table, barline));
+    say(out, b" ended at the barline at ")?;
+    say_place(out, place_of(table, barline))
 }
 
 // The sign of this letter does not reach: it holds in its own octave, and up to the barline.
-fn show_unreached(data: &[u8], table: &[usize], letter: usize, before: usize, octave: u8) {
+fn show_unreached<W: Write>(
+    out: &mut W,
+    data: &[u8],
+    table: &[usize],
+    letter: usize,
+    before: usize,
+    octave: u8,
+) -> io::Result<()> {
     let held = octave_of(data, table, letter);
     let barline = first_behind(table, letter, before, Sought::Barline);
-    say(b"    not from    ");
-    say_mark_at(data, table, sign_of(table, letter));
+    say(out, b"    not from    ")?;
+    say_mark_at(out, data, table, sign_of(table, letter))?;
     if held != octave {
-        say(b", which holds in octave ");
-        say_number(held as u64);
-        say(b" only");
+        say(out, b", which holds in octave ")?;
+        say_number(out, held as u64)?;
+        say(out, b" only")?;
         if 0 < barline {
-            say(b" and");
+            say(out, b" and")?;
         }
     } else {
-        say(b", which");
+        say(out, b", which")?;
     }
     if 0 < barline {
-        say_end(data, table, barline);
+        say_end(out, data, table, barline)?;
     }
-    end_row();
+    end_row(out)
 }
 
 // Whether the cause is this key, or something before which no key counts.
@@ -299,21 +333,30 @@ fn is_from(cause: Cause, key: usize) -> bool {
 }
 
 // The last key, where it was not taken and would alter the letter otherwise.
-fn show_key_not(cause: Cause, data: &[u8], table: &[usize], before: usize, step: u8, alter: i8) {
+fn show_key_not<W: Write>(
+    out: &mut W,
+    cause: Cause,
+    data: &[u8],
+    table: &[usize],
+    before: usize,
+    step: u8,
+    alter: i8,
+) -> io::Result<()> {
     let key = latest(table, before, Sought::Key, Sought::Nothing);
     if is_from(cause, key) {
-        return;
+        return Ok(());
     }
     if key_alter(data, table, key, step) == alter {
-        return;
+        return Ok(());
     }
-    say(b"    not from    the key ");
-    say_mark_at(data, table, key);
-    say_row(b", which was not taken");
+    say(out, b"    not from    the key ")?;
+    say_mark_at(out, data, table, key)?;
+    say_row(out, b", which was not taken")
 }
 
 // The nearest sign on the same step that does not reach the letter behind the marks up to `before`, where it would alter it otherwise.
-pub(crate) fn show_why_not(
+pub(crate) fn show_why_not<W: Write>(
+    out: &mut W,
     cause: Cause,
     data: &[u8],
     table: &[usize],
@@ -321,17 +364,17 @@ pub(crate) fn show_why_not(
     step: u8,
     octave: u8,
     alter: i8,
-) {
+) -> io::Result<()> {
     if has_own_sign(cause) {
-        return;
+        return Ok(());
     }
-    show_key_not(cause, data, table, before, step, alter);
+    show_key_not(out, cause, data, table, before, step, alter)?;
     let letter = latest_signed(table, before, step);
     if letter <= letter_in(cause) {
-        return;
+        return Ok(());
     }
     if sign_at(data, table, sign_of(table, letter)) == alter {
-        return;
+        return Ok(());
     }
-    show_unreached(data, table, letter, before, octave);
+    show_unreached(out, data, table, letter, before, octave)
 }

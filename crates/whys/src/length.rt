@@ -8,6 +8,8 @@ use marks::table::{MARKS, end_of, place_of, start_of, stored_at, token_at};
 use rows::row::{end_row, say, say_number, say_row};
 use rows::terms::{say_length, say_place};
 use show::byte_at;
+use std::io;
+use std::io::Write;
 use text::{Class, is_digit};
 use values::rhythm::duration_of;
 
@@ -17,7 +19,7 @@ const NAMED: usize = 8;
 // ---- patterns
 
 // A duration, 0 to 9 for longa to 128th, and dots.
-#[derive(Drop)]
+#[derive(Clone, Copy)]
 struct Length {
     duration: u32,
     dots: u32,
@@ -104,37 +106,51 @@ fn element_after(taken: usize, size: usize) -> usize
 }
 
 // Who took the `index` elements before: the last one first.
-fn say_takers(data: &[u8], table: &[usize], before: usize, index: usize) {
+fn say_takers<W: Write>(
+    out: &mut W,
+    data: &[u8],
+    table: &[usize],
+    before: usize,
+    index: usize,
+) -> io::Result<()> {
     let mut named = 0;
     let mut element = index;
     let mut k = before;
     while 0 < element {
         if named == NAMED {
-            say(b" ..");
-            return;
+            say(out, b" ..")?;
+            return Ok(());
         }
         let taker = latest(table, k, Sought::Taking, Sought::Pattern);
         if taker == 0 {
-            return;
+            return Ok(());
         }
-        say_taker(data, table, taker, element, named == 0);
+        say_taker(out, data, table, taker, element, named == 0)?;
         k = taker - 1;
         named += 1;
         element -= 1;
     }
+    Ok(())
 }
 
-fn say_taker(data: &[u8], table: &[usize], taker: usize, element: usize, first: bool) {
+fn say_taker<W: Write>(
+    out: &mut W,
+    data: &[u8],
+    table: &[usize],
+    taker: usize,
+    element: usize,
+    first: bool,
+) -> io::Result<()> {
     if first {
-        say(b"; element ");
-        say_number(element as u64);
-        say(b" was taken by ");
+        say(out, b"; element ")?;
+        say_number(out, element as u64)?;
+        say(out, b" was taken by ")?;
     } else {
-        say(b", ");
-        say_number(element as u64);
-        say(b" by ");
+        say(out, b", ")?;
+        say_number(out, element as u64)?;
+        say(out, b" by ")?;
     }
-    say_mark_at(data, table, taker);
+    say_mark_at(out, data, table, taker)
 }
 
 // A small index from 0, counted from 1.
@@ -146,49 +162,62 @@ fn from_one(index: usize) -> u64 {
 }
 
 // The element of a pattern, and who took the earlier ones.
-fn say_element(
+fn say_element<W: Write>(
+    out: &mut W,
     data: &[u8],
     table: &[usize],
     before: usize,
     pattern: usize,
     index: usize,
     again: bool,
-) {
-    say(b", element ");
-    say_number(from_one(index));
-    say(b" of the pattern ");
-    say_mark_at(data, table, pattern);
+) -> io::Result<()> {
+    say(out, b", element ")?;
+    say_number(out, from_one(index))?;
+    say(out, b" of the pattern ")?;
+    say_mark_at(out, data, table, pattern)?;
     if again {
-        say(b", which starts again");
+        say(out, b", which starts again")?;
     }
-    say_takers(data, table, before, index);
+    say_takers(out, data, table, before, index)
 }
 
 // The length that the pattern gives behind the marks up to `before`.
-pub(crate) fn show_pattern_length(data: &[u8], table: &[usize], before: usize) {
+pub(crate) fn show_pattern_length<W: Write>(
+    out: &mut W,
+    data: &[u8],
+    table: &[usize],
+    before: usize,
+) -> io::Result<()> {
     let pattern = latest(table, before, Sought::Pattern, Sought::Nothing);
     let taken = count_back(table, before, Sought::Taking, Sought::Pattern);
     let size = size_of(data, table, pattern);
     let index = element_after(taken, size);
     let length = length_at(data, table, pattern, index);
-    say(b"    length      ");
-    say_length(length.duration, length.dots);
+    say(out, b"    length      ")?;
+    say_length(out, length.duration, length.dots)?;
     if pattern == 0 {
-        say_row(b", as at the start");
-        return;
+        say_row(out, b", as at the start")?;
+        return Ok(());
     }
     let again = (index == 0) & (0 < taken) & (1 < size);
-    say_element(data, table, before, pattern, index, again);
-    end_row();
+    say_element(out, data, table, before, pattern, index, again)?;
+    end_row(out)
 }
 
 // ---- graces and chords
 
 // A mark and what it does to the letter.
-fn show_effect(label: &[u8], data: &[u8], table: &[usize], k: usize, effect: &[u8]) {
-    say(label);
-    say_mark_at(data, table, k);
-    say_row(effect);
+fn show_effect<W: Write>(
+    out: &mut W,
+    label: &[u8],
+    data: &[u8],
+    table: &[usize],
+    k: usize,
+    effect: &[u8],
+) -> io::Result<()> {
+    say(out, label)?;
+    say_mark_at(out, data, table, k)?;
+    say_row(out, effect)
 }
 
 fn is_slashed(token: Token) -> bool {
@@ -206,71 +235,100 @@ fn starts_group(token: Token) -> bool {
 }
 
 // What makes a letter a grace that is not slashed: a `q`, or a group.
-fn show_grace(data: &[u8], table: &[usize], before: usize, grace: usize) {
+fn show_grace<W: Write>(
+    out: &mut W,
+    data: &[u8],
+    table: &[usize],
+    before: usize,
+    grace: usize,
+) -> io::Result<()> {
     if 0 < grace {
         show_effect(
+            out,
             b"    grace       by ",
             data,
             table,
             grace,
             b"; the pattern does not step",
-        );
-        return;
+        )?;
+        return Ok(());
     }
     let group = latest(table, before, Sought::GraceGroup, Sought::Nothing);
     if starts_group(token_at(data, table, group)) {
         show_effect(
+            out,
             b"    grace       in the group of ",
             data,
             table,
             group,
             b"; the pattern does not step",
-        );
+        )?;
     }
+    Ok(())
 }
 
 // The length of a letter that opened a note, and what makes it a grace.
-fn show_opened(data: &[u8], table: &[usize], before: usize) {
+fn show_opened<W: Write>(
+    out: &mut W,
+    data: &[u8],
+    table: &[usize],
+    before: usize,
+) -> io::Result<()> {
     let grace = latest(table, before, Sought::Grace, Sought::Opening);
     if is_slashed(token_at(data, table, grace)) {
         show_effect(
+            out,
             b"    length      eighth, since ",
             data,
             table,
             grace,
             b" makes it a slashed grace; the pattern does not step",
-        );
-        return;
+        )?;
+        return Ok(());
     }
-    show_pattern_length(data, table, before);
-    show_grace(data, table, before, grace);
+    show_pattern_length(out, data, table, before)?;
+    show_grace(out, data, table, before, grace)
 }
 
 // A letter that joins a chord: the note that it joins, and the `^`.
-fn show_joined(data: &[u8], table: &[usize], note: usize, chord: usize) {
-    say(b"    length      that of the note at ");
-    say_place(place_of(table, note));
-    say(b", whose chord it joins by ");
-    say_mark_at(data, table, chord);
-    say_row(b"; the pattern does not step");
+fn show_joined<W: Write>(
+    out: &mut W,
+    data: &[u8],
+    table: &[usize],
+    note: usize,
+    chord: usize,
+) -> io::Result<()> {
+    say(out, b"    length      that of the note at ")?;
+    say_place(out, place_of(table, note))?;
+    say(out, b", whose chord it joins by ")?;
+    say_mark_at(out, data, table, chord)?;
+    say_row(out, b"; the pattern does not step")
 }
 
 // The length of the letter at mark k, behind the marks up to `before`.
-pub(crate) fn show_length(data: &[u8], table: &[usize], k: usize, before: usize) {
+pub(crate) fn show_length<W: Write>(
+    out: &mut W,
+    data: &[u8],
+    table: &[usize],
+    k: usize,
+    before: usize,
+) -> io::Result<()> {
     let chord = latest(table, before, Sought::Chord, Sought::Letter);
     if stored_at(table, k) == 0 {
         let note = latest(table, before, Sought::Storing, Sought::Nothing);
-        show_joined(data, table, note, chord);
-        return;
+        show_joined(out, data, table, note, chord)?;
+        return Ok(());
     }
-    show_opened(data, table, before);
+    show_opened(out, data, table, before)?;
     if 0 < chord {
         show_effect(
+            out,
             b"    chord       ",
             data,
             table,
             chord,
             b" finds no note to join",
-        );
+        )?;
     }
+    Ok(())
 }

@@ -13,9 +13,11 @@ use records::cells::natural;
 use records::note::PITCH_COUNT;
 use rows::row::{end_row, number_left, say, say_heading, say_row};
 use rows::terms::{say_counted, say_pitch, say_place, wide};
+use std::io;
+use std::io::Write;
 
 // The key that the fields set: its alterations, and the line of the last keysig field, 0 where there is none.
-#[derive(Drop)]
+#[derive(Clone, Copy)]
 pub struct KeyField {
     pub alters: [i8; 7],
     pub line: usize,
@@ -26,53 +28,81 @@ const NAMED: u32 = 16;
 
 // ---- letters
 
-fn show_letter(data: &[u8], table: &[usize], k: usize, before: usize, step: u8, key: KeyField) {
+fn show_letter<W: Write>(
+    out: &mut W,
+    data: &[u8],
+    table: &[usize],
+    k: usize,
+    before: usize,
+    step: u8,
+    key: KeyField,
+) -> io::Result<()> {
     let set = octave_mark(table, before);
     let octave = octave_at(data, table, set);
     let cause = cause_of(data, table, before, step, octave);
     let line = key.line;
     let alter = alteration_by(cause, data, table, step, key);
-    say(b"  ");
-    say_pitch(step as u32, wide(alter), octave as u32);
-    say(b", the letter at ");
-    say_place(place_of(table, k));
-    end_row();
-    show_octave(data, table, set, octave);
-    show_alteration(cause, data, table, alter, line);
-    show_why_not(cause, data, table, before, step, octave, alter);
-    show_length(data, table, k, before);
+    say(out, b"  ")?;
+    say_pitch(out, step as u32, wide(alter), octave as u32)?;
+    say(out, b", the letter at ")?;
+    say_place(out, place_of(table, k))?;
+    end_row(out)?;
+    show_octave(out, data, table, set, octave)?;
+    show_alteration(out, cause, data, table, alter, line)?;
+    show_why_not(out, cause, data, table, before, step, octave, alter)?;
+    show_length(out, data, table, k, before)
 }
 
 // ---- rests
 
 // A sign that waits is not used up by a rest.
-fn show_waiting(data: &[u8], table: &[usize], before: usize) {
+fn show_waiting<W: Write>(
+    out: &mut W,
+    data: &[u8],
+    table: &[usize],
+    before: usize,
+) -> io::Result<()> {
     let sign = waiting_sign(table, before);
     if 0 < sign {
-        say(b"    sign        ");
-        say_mark_at(data, table, sign);
-        say_row(b" waits on for a letter");
+        say(out, b"    sign        ")?;
+        say_mark_at(out, data, table, sign)?;
+        say_row(out, b" waits on for a letter")?;
     }
+    Ok(())
 }
 
-fn show_rest(data: &[u8], table: &[usize], k: usize, before: usize) {
-    say(b"  rest at ");
-    say_place(place_of(table, k));
-    end_row();
-    show_pattern_length(data, table, before);
-    show_waiting(data, table, before);
+fn show_rest<W: Write>(
+    out: &mut W,
+    data: &[u8],
+    table: &[usize],
+    k: usize,
+    before: usize,
+) -> io::Result<()> {
+    say(out, b"  rest at ")?;
+    say_place(out, place_of(table, k))?;
+    end_row(out)?;
+    show_pattern_length(out, data, table, before)?;
+    show_waiting(out, data, table, before)
 }
 
-fn show_whole_bars(data: &[u8], table: &[usize], k: usize, before: usize, count: u16) {
-    say(b"  whole-bar rest at ");
-    say_place(place_of(table, k));
-    say(b", ");
-    say_counted(count as u64, b"bar");
-    end_row();
+fn show_whole_bars<W: Write>(
+    out: &mut W,
+    data: &[u8],
+    table: &[usize],
+    k: usize,
+    before: usize,
+    count: u16,
+) -> io::Result<()> {
+    say(out, b"  whole-bar rest at ")?;
+    say_place(out, place_of(table, k))?;
+    say(out, b", ")?;
+    say_counted(out, count as u64, b"bar")?;
+    end_row(out)?;
     say_row(
+        out,
         b"    length      none of its own, it lasts as long as its bar; the pattern does not step",
-    );
-    show_waiting(data, table, before);
+    )?;
+    show_waiting(out, data, table, before)
 }
 
 // ---- copies
@@ -87,69 +117,93 @@ const OCTAVE: usize = 2;
 const ALTER: usize = 3;
 
 // A pitch of a copy made at a place; one behind it joined the copy.
-fn say_copied_pitch(notes: &[i32], number: u32, which: u32, copied: usize) {
+fn say_copied_pitch<W: Write>(
+    out: &mut W,
+    notes: &[i32],
+    number: u32,
+    which: u32,
+    copied: usize,
+) -> io::Result<()> {
     if 0 < which {
-        say(b", ");
+        say(out, b", ")?;
     }
     say_pitch(
+        out,
         natural(pitch_word(notes, number, which, STEP)),
         pitch_word(notes, number, which, ALTER),
         natural(pitch_word(notes, number, which, OCTAVE)),
-    );
+    )?;
     let place = natural(pitch_word(notes, number, which, PLACE)) as usize;
     if copied < place {
-        say(b" joined by the letter at ");
+        say(out, b" joined by the letter at ")?;
     } else {
-        say(b" as the letter at ");
+        say(out, b" as the letter at ")?;
     }
-    say_place(place);
+    say_place(out, place)
 }
 
 // A copied record: its pitches are those of the letters that stored them.
-fn show_copied(notes: &[i32], number: u32, copied: usize) {
-    say(b"    note ");
-    number_left(number as u64 + 1, 7);
+fn show_copied<W: Write>(out: &mut W, notes: &[i32], number: u32, copied: usize) -> io::Result<()> {
+    say(out, b"    note ")?;
+    number_left(out, number as u64 + 1, 7)?;
     let count = note_word(notes, number, PITCH_COUNT);
     if count == 0 {
-        say(b"a rest");
+        say(out, b"a rest")?;
     }
     let mut i: u32 = 0;
     while i < count {
-        say_copied_pitch(notes, number, i, copied);
+        say_copied_pitch(out, notes, number, i, copied)?;
         i += 1;
     }
-    end_row();
+    end_row(out)
 }
 
 // The records from one number on and below another, the first of them at most.
-fn show_records(notes: &[i32], from: u32, to: u32, copied: usize) {
+fn show_records<W: Write>(
+    out: &mut W,
+    notes: &[i32],
+    from: u32,
+    to: u32,
+    copied: usize,
+) -> io::Result<()> {
     let mut named: u32 = 0;
     let mut number = from;
     while number < to {
         if named == NAMED {
-            say_row(b"    ..");
-            return;
+            say_row(out, b"    ..")?;
+            return Ok(());
         }
-        show_copied(notes, number, copied);
+        show_copied(out, notes, number, copied)?;
         named += 1;
         number += 1;
     }
+    Ok(())
 }
 
 // The records that an `f` or `i` stored; none where it stored none.
-fn show_copies(data: &[u8], table: &[usize], notes: &[i32], k: usize, before: usize) {
+fn show_copies<W: Write>(
+    out: &mut W,
+    data: &[u8],
+    table: &[usize],
+    notes: &[i32],
+    k: usize,
+    before: usize,
+) -> io::Result<()> {
     let to = stored_at(table, k);
     if to == 0 {
-        return;
+        return Ok(());
     }
     let from = stored_at(
         table,
         latest(table, before, Sought::Storing, Sought::Nothing),
     );
-    say(b"  copied by ");
-    say_mark_at(data, table, k);
-    say_row(b": signs, octave and pattern here change nothing, and ties are not copied");
-    show_records(notes, from, to, place_of(table, k));
+    say(out, b"  copied by ")?;
+    say_mark_at(out, data, table, k)?;
+    say_row(
+        out,
+        b": signs, octave and pattern here change nothing, and ties are not copied",
+    )?;
+    show_records(out, notes, from, to, place_of(table, k))
 }
 
 // ---- marks
@@ -162,22 +216,30 @@ fn is_repeat(which: Figure) -> bool {
 }
 
 // The why of a mark, where it is a letter, a rest or an `f` or `i` that copied.
-fn show_mark_why(data: &[u8], table: &[usize], notes: &[i32], k: usize, key: KeyField) {
+fn show_mark_why<W: Write>(
+    out: &mut W,
+    data: &[u8],
+    table: &[usize],
+    notes: &[i32],
+    k: usize,
+    key: KeyField,
+) -> io::Result<()> {
     if k == 0 {
-        return;
+        return Ok(());
     }
     let token = token_at(data, table, k);
     match token {
-        Token::Letter(step) => show_letter(data, table, k, k - 1, step, key),
-        Token::Rest => show_rest(data, table, k, k - 1),
-        Token::WholeBars(count) => show_whole_bars(data, table, k, k - 1, count),
+        Token::Letter(step) => show_letter(out, data, table, k, k - 1, step, key)?,
+        Token::Rest => show_rest(out, data, table, k, k - 1)?,
+        Token::WholeBars(count) => show_whole_bars(out, data, table, k, k - 1, count)?,
         Token::Figure(which) => {
             if is_repeat(which) {
-                show_copies(data, table, notes, k, k - 1);
+                show_copies(out, data, table, notes, k, k - 1)?;
             }
         }
         _ => {}
     }
+    Ok(())
 }
 
 // Whether the mark at a place has a why: it stored a record, or is a letter that joined one.
@@ -187,33 +249,40 @@ fn has_why(table: &[usize], k: usize, place: usize) -> bool {
 }
 
 // That nothing stands at a place that has a why; of so many marks.
-fn show_missing(table: &[usize], count: usize, place: usize) {
+fn show_missing<W: Write>(
+    out: &mut W,
+    table: &[usize],
+    count: usize,
+    place: usize,
+) -> io::Result<()> {
     if has_why(table, mark_at(table, 1, count, place), place) {
-        return;
+        return Ok(());
     }
-    say(b"  no letter, rest or copy stands at ");
-    say_place(place);
-    end_row();
+    say(out, b"  no letter, rest or copy stands at ")?;
+    say_place(out, place)?;
+    end_row(out)
 }
 
 // Why each letter, rest and copy is as it is; with a place, not 0, what stands there alone.
-pub fn show_whys(
+pub fn show_whys<W: Write>(
+    out: &mut W,
     data: &[u8],
     table: &[usize],
     count: usize,
     notes: &[i32],
     key: KeyField,
     place: usize,
-) {
-    say_heading(b"Why each letter, rest and copy is as it is");
+) -> io::Result<()> {
+    say_heading(out, b"Why each letter, rest and copy is as it is")?;
     let mut k = 0;
     while k < count {
         k += 1;
         if (place == 0) | (place_of(table, k) == place) {
-            show_mark_why(data, table, notes, k, key);
+            show_mark_why(out, data, table, notes, k, key)?;
         }
     }
     if 0 < place {
-        show_missing(table, count, place);
+        show_missing(out, table, count, place)?;
     }
+    Ok(())
 }
