@@ -1,4 +1,7 @@
 // The arguments of the program.
+ghost use Rattle.std.specs.Prelude.{◌≤◌, length, IfSome};
+
+use std::env::{Env, FillError};
 use text::{begins_with, is_digit};
 
 // The longest word that an option or a layer's name has, and a few bytes more.
@@ -18,7 +21,7 @@ pub(crate) const BARS: u8 = 4;
 pub(crate) const WHY: u8 = 5;
 
 // What the arguments ask for. `text` is the argument that is a text and `bad` the first that is not understood, 0 where there is none.
-#[derive(Drop)]
+#[derive(Clone, Copy)]
 pub(crate) struct Options {
     pub help: bool,
     pub lines: bool,
@@ -30,7 +33,7 @@ pub(crate) struct Options {
 }
 
 // What comes next.
-#[derive(Drop)]
+#[derive(Clone, Copy)]
 enum Next {
     Option,
     Layer,
@@ -122,7 +125,7 @@ fn looks_like_option(argument: &[u8]) -> bool {
 // ---- one argument after the other
 
 // What an argument is.
-#[derive(Drop)]
+#[derive(Clone, Copy)]
 enum Word {
     Help,
     Lines,
@@ -256,17 +259,29 @@ fn with_end(options: Options, next: Next, count: usize) -> Options {
 }
 
 // The options of the program's arguments; argument 0 is its name. A long argument is no option.
-pub(crate) fn options_given() -> Options {
-    let count = os::arg_count();
+pub(crate) fn options_given(rt: &impl Env) -> Options {
     let mut options = none();
     let mut next = Next::Option;
-    let mut i = 1;
-    while i < count {
+    for i in 1..usize::MAX {
         let mut word = [0u8; WORD];
-        let size = os::arg(i, &mut word);
-        options = with_argument(options, i, &word[..size], next);
-        next = next_behind(&word[..size], next);
-        i += 1;
+        match argument(rt, i, &mut word) {
+            None => return with_end(options, next, i),
+            Some(size) => {
+                options = with_argument(options, i, &word[..size], next);
+                next = next_behind(&word[..size], next);
+            }
+        }
     }
-    with_end(options, next, count)
+    options
+}
+
+// Argument i, put into the buffer: its size, 0 for one that is longer than the buffer, none behind the last.
+pub(crate) fn argument(rt: &impl Env, i: usize, buffer: &mut [u8]) -> Option<usize>
+    ensures { IfSome result (λ size. size ≤ length buffer.new) }
+{
+    match rt.arg(i, buffer) {
+        Ok(size) => Some(size),
+        Err(FillError::TooLong) => Some(0),
+        Err(FillError::NotPresent) => None,
+    }
 }

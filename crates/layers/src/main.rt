@@ -1,15 +1,16 @@
 // Shows incipits in four layers: the typed line with a ruler of places, its marks, the notes, the bars; and apart from them why each letter,
 // rest and copy is as it is. A text is an argument or comes from standard input, where a line that is exactly `---` stands between two, or,
 // with `--lines`, each line is one. The line end behind a text is no part of it.
+#![tactic(auto)]
+
 mod arguments; // arguments.rt: what the program is asked for
 mod texts; // texts.rt: the texts of an input
 
-ghost use Rattle.io.specs.Counts.{IsPrefixLen};
+ghost use Rattle.std.specs.Io.{ReadsAtMost};
 
-use arguments::{ALL, BARS, LINE, MARKS, NOTES, Options, WHY, options_given};
+use arguments::{ALL, BARS, LINE, MARKS, NOTES, Options, WHY, argument, options_given};
 use ending::Reading;
 use fields::{Fields, fields_of};
-use libc::STDIN_FILENO;
 use limits::Pae;
 use marks::table::{TABLE, enter_marks, enter_stored};
 use meanings::meaning::show_marks;
@@ -17,6 +18,10 @@ use reading::read::read;
 use records::cells::{DIAGNOSTIC, clear};
 use rows::row::{end_row, say, say_heading, say_number, say_row, say_text};
 use rows::terms::say_counted;
+use show::read_full;
+use std::env::Env;
+use std::io;
+use std::io::{BufWriter, Write};
 use tables::bars::{Defaults, show_bars};
 use tables::notes::show_notes;
 use texts::{end_of_line, keysig_line, separator, text_end, without_line_end};
@@ -50,7 +55,8 @@ fn key_field(fields: Fields, line: usize) -> KeyField {
 }
 
 // The layers of a text that is accepted, behind its marks; its last keysig field stands in this line.
-fn show_layers(
+fn show_layers<W: Write>(
+    out: &mut W,
     data: &[u8],
     table: &[usize],
     count: usize,
@@ -60,21 +66,22 @@ fn show_layers(
     notes: &[i32],
     bars: &[i32],
     options: Options,
-) {
+) -> io::Result<()> {
     if is_asked(options, NOTES) {
-        show_notes(notes, reading.notes, data, table, count);
+        show_notes(out, notes, reading.notes, data, table, count)?;
     }
     if is_asked(options, BARS) {
         let defaults = Defaults {
             clef: fields.attributes.clef == 0,
             key: !fields.attributes.keyed,
         };
-        show_bars(bars, reading.bars, notes, data, table, count, defaults);
+        show_bars(out, bars, reading.bars, notes, data, table, count, defaults)?;
     }
     if is_asked(options, WHY) {
         let key = key_field(fields, line);
-        show_whys(data, table, count, notes, key, options.letter);
+        show_whys(out, data, table, count, notes, key, options.letter)?;
     }
+    Ok(())
 }
 
 // Whether the data of a text was looked at.
@@ -83,28 +90,29 @@ fn is_read(refusal: u32) -> bool {
 }
 
 // What came of the text, in the last row.
-fn show_outcome(reading: Reading) {
-    end_row();
+fn show_outcome<W: Write>(out: &mut W, reading: Reading) -> io::Result<()> {
+    end_row(out)?;
     if reading.number != 0 {
-        say(b"refused ");
-        say_number(reading.number as u64);
-        end_row();
-        return;
+        say(out, b"refused ")?;
+        say_number(out, reading.number as u64)?;
+        end_row(out)?;
+        return Ok(());
     }
-    say(b"accepted: ");
-    say_counted(reading.notes as u64, b"note");
-    say(b", ");
-    say_counted(reading.bars as u64, b"bar");
-    say(b", ");
-    say_counted(reading.diagnostics as u64, b"diagnostic");
+    say(out, b"accepted: ")?;
+    say_counted(out, reading.notes as u64, b"note")?;
+    say(out, b", ")?;
+    say_counted(out, reading.bars as u64, b"bar")?;
+    say(out, b", ")?;
+    say_counted(out, reading.diagnostics as u64, b"diagnostic")?;
     if reading.diagnostics as usize == CELLS {
-        say(b" or more");
+        say(out, b" or more")?;
     }
-    end_row();
+    end_row(out)
 }
 
 // The first layer, which a refused text always has, and the marks of data that was looked at; so many marks.
-fn show_above(
+fn show_above<W: Write>(
+    out: &mut W,
     text: &[u8],
     data: &[u8],
     table: &[usize],
@@ -114,7 +122,7 @@ fn show_above(
     notes: &[i32],
     diagnostics: &[i32],
     options: Options,
-) {
+) -> io::Result<()> {
     let refusal = reading.number;
     let found = reading.diagnostics;
     let outcome = Outcome {
@@ -124,6 +132,7 @@ fn show_above(
     };
     if is_asked(options, LINE) | (0 < refusal) {
         show_typed(
+            out,
             text,
             data,
             offset,
@@ -132,16 +141,18 @@ fn show_above(
             notes,
             diagnostics,
             outcome,
-        );
+        )?;
     }
     if is_asked(options, MARKS) & is_read(refusal) {
         let told = (refusal == 0) & ((found as usize) < CELLS);
-        show_marks(data, table, count, notes, diagnostics, found, told);
+        show_marks(out, data, table, count, notes, diagnostics, found, told)?;
     }
+    Ok(())
 }
 
 // The layers of a text with these data.
-fn show_part(
+fn show_part<W: Write>(
+    out: &mut W,
     text: &[u8],
     data: &[u8],
     fields: Fields,
@@ -150,11 +161,12 @@ fn show_part(
     bars: &[i32],
     diagnostics: &[i32],
     options: Options,
-) {
+) -> io::Result<()> {
     let mut table = [0usize; TABLE];
     let count = enter_marks(&mut table, data);
     enter_stored(&mut table, count, notes, reading.notes);
     show_above(
+        out,
         text,
         data,
         &table,
@@ -164,13 +176,14 @@ fn show_part(
         notes,
         diagnostics,
         options,
-    );
+    )?;
     if reading.number == 0 {
         let line = keysig_line(text);
         show_layers(
-            data, &table, count, fields, line, reading, notes, bars, options,
-        );
+            out, data, &table, count, fields, line, reading, notes, bars, options,
+        )?;
     }
+    Ok(())
 }
 
 // Where the data stands; behind every text where there is none.
@@ -182,18 +195,18 @@ fn data_offset(fields: Fields) -> usize {
 }
 
 // A text that is longer than a reading takes.
-fn refuse_long(text: &[u8]) {
-    say_heading(b"1. The typed line");
-    show_refusal(text, 1, 0);
-    say_row(b"");
-    say_row(b"refused 1");
+fn refuse_long<W: Write>(out: &mut W, text: &[u8]) -> io::Result<()> {
+    say_heading(out, b"1. The typed line")?;
+    show_refusal(out, text, 1, 0)?;
+    say_row(out, b"")?;
+    say_row(out, b"refused 1")
 }
 
 // Reads a text and shows it.
-fn show_one(text: &[u8], options: Options) {
+fn show_one<W: Write>(out: &mut W, text: &[u8], options: Options) -> io::Result<()> {
     if Pae::MAX_INPUT_BYTES < text.len() {
-        refuse_long(text);
-        return;
+        refuse_long(out, text)?;
+        return Ok(());
     }
     let mut notes = [0i32; NOTE_WORDS];
     let mut bars = [0i32; BAR_WORDS];
@@ -215,6 +228,7 @@ fn show_one(text: &[u8], options: Options) {
     if start <= end {
         if end <= text.len() {
             show_part(
+                out,
                 text,
                 &text[start..end],
                 fields,
@@ -223,54 +237,63 @@ fn show_one(text: &[u8], options: Options) {
                 &bars,
                 &scratch,
                 options,
-            );
+            )?;
         }
     }
-    show_outcome(reading);
+    show_outcome(out, reading)
 }
 
 // ---- the texts of an input
 
 // A row between two texts.
-fn show_rule() {
-    say_row(b"");
-    say_row(b"================================================================================");
+fn show_rule<W: Write>(out: &mut W) -> io::Result<()> {
+    say_row(out, b"")?;
+    say_row(
+        out,
+        b"================================================================================",
+    )
 }
 
 // The texts of the input, a line that separates between two.
-fn show_all(input: &[u8], options: Options) {
+fn show_all<W: Write>(out: &mut W, input: &[u8], options: Options) -> io::Result<()> {
     let mut at = 0;
     while at < input.len() {
         let end = text_end(input, at);
         let last = without_line_end(input, at, end);
-        show_one(&input[at..last], options);
+        show_one(out, &input[at..last], options)?;
         let size = separator(&input[end..]);
         if size == 0 {
-            return;
+            return Ok(());
         }
         if input.len() - end <= size {
-            return;
+            return Ok(());
         }
         at = end + size;
-        show_rule();
+        show_rule(out)?;
     }
+    Ok(())
 }
 
 // A line of the input as a text, with its number; an empty line is none. Whether it is one.
-fn show_numbered(line: &[u8], number: usize, options: Options) -> bool {
+fn show_numbered<W: Write>(
+    out: &mut W,
+    line: &[u8],
+    number: usize,
+    options: Options,
+) -> io::Result<bool> {
     if line.len() == 0 {
-        return false;
+        return Ok(false);
     }
-    show_rule();
-    say(b"Line ");
-    say_number(number as u64);
-    end_row();
-    show_one(line, options);
-    true
+    show_rule(out)?;
+    say(out, b"Line ")?;
+    say_number(out, number as u64)?;
+    end_row(out)?;
+    show_one(out, line, options)?;
+    Ok(true)
 }
 
 // Each line of the input as a text.
-fn show_lines(input: &[u8], options: Options) {
+fn show_lines<W: Write>(out: &mut W, input: &[u8], options: Options) -> io::Result<()> {
     let mut any = false;
     let mut number = 0;
     let mut at = 0;
@@ -278,89 +301,111 @@ fn show_lines(input: &[u8], options: Options) {
         let end = end_of_line(input, at);
         let last = without_line_end(input, at, end);
         number += 1;
-        any = any | show_numbered(&input[at..last], number, options);
+        any = any | show_numbered(out, &input[at..last], number, options)?;
         at = end + 1;
     }
     if !any {
-        say_row(b"No line of the input has a text.");
+        say_row(out, b"No line of the input has a text.")?;
     }
+    Ok(())
 }
 
-fn show_input(input: &[u8], options: Options) {
+fn show_input<W: Write>(out: &mut W, input: &[u8], options: Options) -> io::Result<()> {
     if input.len() == 0 {
-        show_one(input, options);
-        return;
+        show_one(out, input, options)?;
+        return Ok(());
     }
     if options.lines {
-        show_lines(input, options);
-        return;
+        show_lines(out, input, options)?;
+        return Ok(());
     }
-    show_all(input, options);
+    show_all(out, input, options)
 }
 
 // ---- the program
 
-fn show_help() {
+fn show_help<W: Write>(out: &mut W) -> io::Result<()> {
     say_row(
+        out,
         b"Shows Plaine & Easie lines in four layers, and says why each letter, rest and copy is as it is.",
-    );
-    say_row(b"");
+    )?;
+    say_row(out, b"")?;
     say_row(
+        out,
         b"  layers [OPTIONS]          texts from standard input; a line that is exactly --- stands between two",
-    );
-    say_row(b"  layers [OPTIONS] LINE     this text");
-    say_row(b"");
-    say_row(b"  --lines                   each line of the input is a text of its own");
-    say_row(b"  --layer NAME              one layer alone: line, marks, notes, bars or why");
+    )?;
+    say_row(out, b"  layers [OPTIONS] LINE     this text")?;
+    say_row(out, b"")?;
     say_row(
+        out,
+        b"  --lines                   each line of the input is a text of its own",
+    )?;
+    say_row(
+        out,
+        b"  --layer NAME              one layer alone: line, marks, notes, bars or why",
+    )?;
+    say_row(
+        out,
         b"  --letter N                only why the letter, rest or copy at place N is as it is; places count characters",
-    );
-    say_row(b"  --help                    this");
-    say_row(b"  --                        what follows is a text, even if it looks like an option");
+    )?;
+    say_row(out, b"  --help                    this")?;
+    say_row(
+        out,
+        b"  --                        what follows is a text, even if it looks like an option",
+    )
 }
 
 // An argument that is not understood.
-fn refuse_argument(input: &mut [u8], i: usize) {
-    say(b"layers: ");
-    let size = os::arg(i, input);
-    if size == 0 {
-        if i < os::arg_count() {
-            say_row(b"not understood: an empty argument (layers --help)");
-            return;
+fn refuse_argument<W: Write>(
+    rt: &impl Env,
+    out: &mut W,
+    input: &mut [u8],
+    i: usize,
+) -> io::Result<()> {
+    say(out, b"layers: ")?;
+    match argument(rt, i, input) {
+        None => say_row(
+            out,
+            b"a value is missing after the last option (layers --help)",
+        ),
+        Some(0) => say_row(out, b"not understood: an empty argument (layers --help)"),
+        Some(size) => {
+            say(out, b"not understood: ")?;
+            say_text(out, &input[..size])?;
+            say_row(out, b" (a text with blanks needs quotes; layers --help)")
         }
-        say_row(b"a value is missing after the last option (layers --help)");
-        return;
     }
-    say(b"not understood: ");
-    say_text(&input[..size]);
-    say_row(b" (a text with blanks needs quotes; layers --help)");
 }
 
 // The text that is argument i, or the input.
-fn input_of(input: &mut [u8], i: usize) -> usize
-    ensures { IsPrefixLen result input.new }
+fn input_of<R: Env + Input>(rt: &R, input: &mut [u8], i: usize) -> io::Result<usize>
+    ensures { ReadsAtMost result input.new }
 {
     if i == 0 {
-        return io::read_full(STDIN_FILENO, input);
+        return read_full(&mut rt.reader(), input);
     }
-    os::arg(i, input)
+    Ok(argument(rt, i, input).unwrap_or(0))
 }
 
-fn main() {
-    let options = options_given();
+// The program: what the arguments ask for.
+fn run<R: Env + Input, W: Write>(rt: &R, out: &mut W) -> io::Result<()> {
+    let options = options_given(rt);
     let mut input = [0u8; INPUT];
     if options.help {
-        show_help();
-        return;
+        return show_help(out);
     }
     if options.bad != 0 {
-        refuse_argument(&mut input, options.bad);
-        return;
+        return refuse_argument(rt, out, &mut input, options.bad);
     }
-    let size = input_of(&mut input, options.text);
+    let size = input_of(rt, &mut input, options.text)?;
     if size == INPUT {
-        say_row(b"The input is too long: 131,072 bytes or more.");
-        return;
+        return say_row(out, b"The input is too long: 131,072 bytes or more.");
     }
-    show_input(&input[..size], options);
+    show_input(out, &input[..size], options)
+}
+
+fn main(rt: HostRuntime) -> io::Result<()> {
+    let mut out = BufWriter::new(rt.alloc(), io::writer(&rt))?;
+    run(&rt, &mut out)?;
+    out.flush()
 }

@@ -25,7 +25,7 @@ fn each_has(words: &[i32], count: u32, size: usize, at: usize) -> bool {
     let mut k = at;
     while i < count {
         right = right & (0 < word_at(words, k));
-        k = std::num::wrapping_add_usize(k, size);
+        k = k.wrapping_add(size);
         i += 1;
     }
     right

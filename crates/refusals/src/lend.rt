@@ -9,7 +9,7 @@ use pae::{Diagnostic, pae_read};
 pub(crate) const CELLS: usize = 2000;
 
 // What a call gives, and whether each cell of the list is as it must be.
-#[derive(Drop)]
+#[derive(Clone, Copy)]
 pub(crate) struct Told {
     pub(crate) reading: Reading,
     pub(crate) right: bool,
@@ -70,7 +70,7 @@ fn tell(list: [Diagnostic; CELLS], reading: Reading, lent: usize) -> Told {
     Told { reading, right }
 }
 
-// The call. (Its list makes it one that is proved by hand: all else stands in other functions.)
+// The call.
 pub(crate) fn lend(
     text: &[u8],
     notes: &mut [i32],

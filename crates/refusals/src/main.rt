@@ -1,5 +1,7 @@
 // Runs the cases of a table, on standard input, through `pae_read` itself, and holds what comes, and every lent cell, against it.
 // README.md has the table's format.
+#![tactic(auto)]
+
 mod cells; // cells.rt: what is lent, before and after a call
 mod lend; // lend.rt: the call, with its list of diagnostics
 mod row; // row.rt: rows of the output
@@ -7,10 +9,15 @@ mod table; // table.rt: the lines of the table
 
 use cells::{RUBBISH, words_right};
 use lend::{CELLS, Told, lend};
-use libc::STDIN_FILENO;
 use records::cells::{BAR, NOTE};
 use row::{print_line, print_row};
+use show::read_full;
+use std::io;
+use std::io::{BufWriter, Write};
 use table::{find, is_heading, least, lent_number, make_text};
+
+// The table has at most so many bytes.
+const TABLE: usize = 65536;
 
 // A text has at most so many bytes: more than are read.
 const TEXT: usize = 65600;
@@ -70,26 +77,29 @@ fn call_lent(line: &[u8]) -> Told {
 }
 
 // A line of the table: a heading, or a case.
-fn run_line(line: &[u8]) {
+fn run_line<W: Write>(out: &mut W, line: &[u8]) -> io::Result<()> {
     if is_heading(line) {
-        print_line(line);
-        return;
+        print_line(out, line)?;
+        return Ok(());
     }
     let told = call_lent(line);
-    print_row(line, told.reading, told.right);
+    print_row(out, line, told.reading, told.right)
 }
 
-fn run_table(table: &[u8]) {
+fn run_table<W: Write>(out: &mut W, table: &[u8]) -> io::Result<()> {
     let mut at = 0;
     while at < table.len() {
         let end = find(table, at, b'\n');
-        run_line(&table[at..end]);
+        run_line(out, &table[at..end])?;
         at = end + 1;
     }
+    Ok(())
 }
 
-fn main() {
-    let mut table = io::large_buffer();
-    let size = io::read_full(STDIN_FILENO, &mut table);
-    run_table(&table[..size]);
+fn main(rt: HostRuntime) -> io::Result<()> {
+    let mut table = [0u8; TABLE];
+    let size = read_full(&mut rt.reader(), &mut table)?;
+    let mut out = BufWriter::new(rt.alloc(), io::writer(&rt))?;
+    run_table(&mut out, &table[..size])?;
+    out.flush()
 }

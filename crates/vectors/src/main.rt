@@ -1,15 +1,18 @@
 // Replays a list of texts with the original's answers, on standard input, and says which texts are read otherwise, and
 // which readings don't come back from their cards. README.md has the list's format.
+#![tactic(auto)]
+
 ghost use Rattle.std.specs.Prelude.{◌≡◌, ◌≤◌, length};
 
 use ending::Reading;
-use libc::{STDIN_FILENO, STDOUT_FILENO};
 use limits::Pae;
 use pae::{pae_read_card, pae_write_card};
 use reading::read::read;
 use records::cells::{BAR, DIAGNOSTIC, FIRST_PITCH, NOTE, PITCH, clear, natural};
 use records::note::PITCH_COUNT;
-use show::{byte_at, magnitude, word_at};
+use show::{byte_at, magnitude, read_full, word_at};
+use std::io;
+use std::io::{BufWriter, Write};
 
 // The list has at most so many bytes.
 const LIST: usize = 1048576;
@@ -32,28 +35,28 @@ const SCRATCH: usize = CELLS * DIAGNOSTIC;
 const CARD: usize = 65536;
 
 // A text of the list without its escapes, and where its answer begins.
-#[derive(Drop)]
+#[derive(Clone, Copy)]
 struct Entry {
     size: usize,
     answer: usize,
 }
 
 // A number of the list, and where it ends.
-#[derive(Drop)]
+#[derive(Clone, Copy)]
 struct Number {
     value: u32,
     end: usize,
 }
 
 // How far an answer is compared, and whether all of it is the same.
-#[derive(Drop)]
+#[derive(Clone, Copy)]
 struct Compared {
     at: usize,
     same: bool,
 }
 
 // Where the next text stands, and what is counted so far.
-#[derive(Drop)]
+#[derive(Clone, Copy)]
 struct Tally {
     at: usize,
     texts: u64,
@@ -387,7 +390,7 @@ fn has_card(r: Reading, notes: &[i32], bars: &[i32]) -> bool {
 // One more where it is so.
 fn one_more(count: u64, more: bool) -> u64 {
     if more {
-        return std::num::wrapping_add_u64(count, 1);
+        return count.wrapping_add(1);
     }
     count
 }
@@ -399,27 +402,28 @@ fn counted(tally: Tally, at: usize, same: bool, card: bool, r: Reading) -> Tally
         differ: one_more(tally.differ, !same),
         refused: one_more(tally.refused, r.number != 0),
         cards: one_more(tally.cards, card),
-        notes: std::num::wrapping_add_u64(tally.notes, r.notes as u64),
-        bars: std::num::wrapping_add_u64(tally.bars, r.bars as u64),
-        diagnostics: std::num::wrapping_add_u64(tally.diagnostics, r.diagnostics as u64),
+        notes: tally.notes.wrapping_add(r.notes as u64),
+        bars: tally.bars.wrapping_add(r.bars as u64),
+        diagnostics: tally.diagnostics.wrapping_add(r.diagnostics as u64),
     }
 }
 
 // A line of the list that is read otherwise.
-fn print_line(list: &[u8], start: usize, end: usize) {
+fn print_line<W: Write>(out: &mut W, list: &[u8], start: usize, end: usize) -> io::Result<()> {
     if start > end {
-        return;
+        return Ok(());
     }
     if end > list.len() {
-        return;
+        return Ok(());
     }
-    io::write_all(STDOUT_FILENO, b"differs: ");
-    io::write_all(STDOUT_FILENO, &list[start..end]);
-    io::write_all(STDOUT_FILENO, b"\n");
+    out.write_all(b"differs: ")?;
+    out.write_all(&list[start..end])?;
+    out.write_all(b"\n")
 }
 
 // A text read, its answer, which begins at `answer`, compared, and its card written and read.
-fn replay_text(
+fn replay_text<W: Write>(
+    out: &mut W,
     list: &[u8],
     tally: Tally,
     answer: usize,
@@ -428,20 +432,21 @@ fn replay_text(
     bars: &mut [i32; BARS],
     figure: &mut [i32; FIGURE],
     found: &mut [i32; SCRATCH],
-) -> Tally {
+) -> io::Result<Tally> {
     clear(found);
     let r = read(text, notes, bars, figure, found, CELLS);
     let same = same_answer(list, answer, text, r, notes, bars, found);
     let card = has_card(r, notes, bars);
     let end = line_end(list, answer);
     if !same {
-        print_line(list, tally.at, end);
+        print_line(out, list, tally.at, end)?;
     }
-    counted(tally, after(list, end), same, card, r)
+    Ok(counted(tally, after(list, end), same, card, r))
 }
 
 // The text at `tally.at`.
-fn replay_next(
+fn replay_next<W: Write>(
+    out: &mut W,
     list: &[u8],
     tally: Tally,
     text: &mut [u8],
@@ -449,10 +454,11 @@ fn replay_next(
     bars: &mut [i32; BARS],
     figure: &mut [i32; FIGURE],
     found: &mut [i32; SCRATCH],
-) -> Tally {
+) -> io::Result<Tally> {
     let entry = unescape(list, tally.at, text);
     let size = entry.size;
     replay_text(
+        out,
         list,
         tally,
         entry.answer,
@@ -465,14 +471,15 @@ fn replay_next(
 }
 
 // Every text takes a byte or more of the list, so that there are no more turns than bytes.
-fn replay(
+fn replay<W: Write>(
+    out: &mut W,
     list: &[u8],
     text: &mut [u8],
     notes: &mut [i32; NOTES],
     bars: &mut [i32; BARS],
     figure: &mut [i32; FIGURE],
     found: &mut [i32; SCRATCH],
-) -> Tally {
+) -> io::Result<Tally> {
     let mut tally = Tally {
         at: 0,
         texts: 0,
@@ -488,20 +495,21 @@ fn replay(
         if tally.at >= list.len() {
             break;
         }
-        tally = replay_next(list, tally, text, notes, bars, figure, found);
+        tally = replay_next(out, list, tally, text, notes, bars, figure, found)?;
         turns -= 1;
     }
-    tally
+    Ok(tally)
 }
 
 // What is lent.
-fn replay_lent(list: &[u8]) -> Tally {
+fn replay_lent<W: Write>(out: &mut W, list: &[u8]) -> io::Result<Tally> {
     let mut text = [0u8; TEXT];
     let mut notes = [0i32; NOTES];
     let mut bars = [0i32; BARS];
     let mut figure = [0i32; FIGURE];
     let mut found = [0i32; SCRATCH];
     replay(
+        out,
         list,
         &mut text,
         &mut notes,
@@ -511,9 +519,9 @@ fn replay_lent(list: &[u8]) -> Tally {
     )
 }
 
-fn print_count(count: u64, of: &[u8]) {
-    io::print_decimal(STDOUT_FILENO, count);
-    io::write_all(STDOUT_FILENO, of);
+fn print_count<W: Write>(out: &mut W, count: u64, of: &[u8]) -> io::Result<()> {
+    write!(out, "{}", count)?;
+    out.write_all(of)
 }
 
 // Room for the list. The `ensures` gives the length, which lending it asks for.
@@ -523,15 +531,17 @@ fn room() -> [u8; LIST]
     [0; LIST]
 }
 
-fn main() {
+fn main(rt: HostRuntime) -> io::Result<()> {
     let mut list = room();
-    let size = io::read_full(STDIN_FILENO, &mut list);
-    let tally = replay_lent(&list[..size]);
-    print_count(tally.texts, b" texts, ");
-    print_count(tally.differ, b" differ\n");
-    print_count(tally.refused, b" refused\n");
-    print_count(tally.cards, b" come back from their cards\n");
-    print_count(tally.notes, b" notes\n");
-    print_count(tally.bars, b" bars\n");
-    print_count(tally.diagnostics, b" diagnostics\n");
+    let size = read_full(&mut rt.reader(), &mut list)?;
+    let mut out = BufWriter::new(rt.alloc(), io::writer(&rt))?;
+    let tally = replay_lent(&mut out, &list[..size])?;
+    print_count(&mut out, tally.texts, b" texts, ")?;
+    print_count(&mut out, tally.differ, b" differ\n")?;
+    print_count(&mut out, tally.refused, b" refused\n")?;
+    print_count(&mut out, tally.cards, b" come back from their cards\n")?;
+    print_count(&mut out, tally.notes, b" notes\n")?;
+    print_count(&mut out, tally.bars, b" bars\n")?;
+    print_count(&mut out, tally.diagnostics, b" diagnostics\n")?;
+    out.flush()
 }
