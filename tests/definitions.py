@@ -1,14 +1,15 @@
 #!/usr/bin/env python3
 """Computes the definition `reading` of crates/rules on many texts and compares it with the original Rust's answers.
 
-    tests/definitions.py [--count N] [--seed S] [--batch B] [--oracle PATH]
+    tests/definitions.py [--count N] [--seed S] [--batch B] [--jobs J] [--oracle PATH]
 
 The oracle is the original Rust: `../shared/oracle/build DIR` builds it and prints its path, which is handed over
 by --oracle or in the environment variable ORACLE.
 
 The whole answer is written as one line: number, place, counts, every word of the stored records, how many cells each
 buffer has and that the others are all 0. The prover computes that line from the definition: each text has a theorem
-`answer text .. ≡ "line"`, proved by `refl`. The theorems stand in target/definitions/, a repository of its own.
+`answer text .. ≡ "line"`, proved by `refl`. The theorems stand in a repository of their own, in a temporary folder that is
+removed at the end.
 
 The expected line comes from the oracle. The words and refusals that the Rust doesn't have are found from the
 oracle's answers on the text cut behind each token; those for limits 1 and 7 are written out. Of the diagnostic cells
@@ -33,11 +34,11 @@ import re
 import shutil
 import subprocess
 import sys
+import tempfile
 from collections import Counter
 from pathlib import Path
 
 ROOT = Path(__file__).resolve().parent.parent
-WORK = ROOT / "target" / "definitions"
 
 # ---- the texts
 
@@ -664,16 +665,11 @@ def lent_for(r, needed):
 
 SHOWN = """\
 -- The answer of `reading` as one line.
-use Prim.Native.Nat.{ℕ, zero, suc, _+_, _-_, _*_, _/_, _%_}
-use Prim.Native.String.{String, _++_, slice}
-use mathlib.Core.Bool.{Bool, true, false, cond, _&&_}
-use mathlib.Core.List.{List, [], _∷_}
-use lib.IntN.{ℤ, pos, negsuc}
-use lib.ListN.{length, take, drop, get_or}
-use lib.Dec.{eqb, ltb}
-use Rattle·rules.specs.Limits.{note_size, bar_size, diagnostic_size, pitch_size}
-use Rattle·rules.specs.Text.{bytes}
-use Rattle·rules.specs.Reading.{Lent, Reading, reading}
+use Rattle.std.specs.Prelude.{ℕ, zero, suc, ◌+◌, ◌-◌, ◌*◌, ◌/◌, ◌%◌, Bool, true, false, cond, ◌&&◌, eqb, ltb, List, [], ◌∷◌, length, take, drop, get_or, ℤ, pos, negsuc}
+use Prim.Native.String.{String, ◌++◌, slice}
+use Rattle.rules.specs.Limits.{note_size, bar_size, diagnostic_size, pitch_size}
+use Rattle.rules.specs.Text.{bytes}
+use Rattle.rules.specs.Reading.{Lent, Reading, reading}
 
 abbrev pub Words : Type 0
 Words = List ℤ
@@ -683,12 +679,12 @@ abbrev pub digit : ℕ → String
 digit n = slice "0123456789abcdef" n (n + 1)
 
 -- a number of at most f digits
-abbrev pub decimalIn : ℕ → ℕ → String
-decimalIn zero n = "?"
-decimalIn (suc f) n = cond (ltb n 10) (digit n) (decimalIn f (n / 10) ++ digit (n % 10))
+abbrev pub decimal_in : ℕ → ℕ → String
+decimal_in zero n = "?"
+decimal_in (suc f) n = cond (ltb n 10) (digit n) (decimal_in f (n / 10) ++ digit (n % 10))
 
 abbrev pub decimal : ℕ → String
-decimal n = decimalIn 8 n
+decimal n = decimal_in 8 n
 
 abbrev pub word : ℤ → String
 word (pos n) = decimal n
@@ -708,20 +704,20 @@ abbrev pub natural : ℤ → ℕ
 natural (pos n) = n
 natural (negsuc n) = 0
 
-abbrev pub wordAt : Words → ℕ → ℕ
-wordAt ws i = natural (get_or ws i (pos 0))
+abbrev pub word_at : Words → ℕ → ℕ
+word_at ws i = natural (get_or ws i (pos 0))
 
-abbrev pub isZero : ℤ → Bool
-isZero (pos n) = eqb n 0
-isZero (negsuc n) = false
+abbrev pub is_zero : ℤ → Bool
+is_zero (pos n) = eqb n 0
+is_zero (negsuc n) = false
 
 abbrev pub all_zero : Words → Bool
 all_zero [] = true
-all_zero (w ∷ ws) = isZero w && all_zero ws
+all_zero (w ∷ ws) = is_zero w && all_zero ws
 
 -- a `+` where not all are 0
-abbrev pub restShown : Words → String
-restShown ws = cond (all_zero ws) "" "+"
+abbrev pub rest_shown : Words → String
+rest_shown ws = cond (all_zero ws) "" "+"
 
 -- n records of so many words, each shown
 abbrev pub records : (Words → String) → ℕ → ℕ → Words → String
@@ -729,11 +725,11 @@ records show size zero ws = ""
 records show size (suc n) ws = show (take size ws) ++ records show size n (drop size ws)
 
 -- a note's words up to its pitch count; the rest is 0
-abbrev pub noteShown : Words → String
-noteShown ws = let used = 12 + pitch_size * wordAt ws 10 in ";N" ++ words (take used ws) ++ restShown (drop used ws)
+abbrev pub note_shown : Words → String
+note_shown ws = let used = 12 + pitch_size * word_at ws 10 in ";N" ++ words (take used ws) ++ rest_shown (drop used ws)
 
-abbrev pub barShown : Words → String
-barShown ws = ";B" ++ words ws
+abbrev pub bar_shown : Words → String
+bar_shown ws = ";B" ++ words ws
 
 -- bytes in hex
 abbrev pub hex : List ℕ → String
@@ -741,47 +737,47 @@ hex [] = ""
 hex (b ∷ bs) = digit (b / 16) ++ digit (b % 16) ++ hex bs
 
 -- the value: a part of the text; `()`, its words 0, 0; a number, its last word 0
-abbrev pub valueShown : List ℕ → ℕ → ℕ → ℕ → String
-valueShown text kind start end =
+abbrev pub value_shown : List ℕ → ℕ → ℕ → ℕ → String
+value_shown text kind start end =
     cond (eqb kind 1) (hex (take (end - start) (drop start text)))
     (cond (eqb kind 2 && eqb start 0 && eqb end 0) (hex (bytes "()"))
     (cond (eqb kind 3 && eqb end 0) (hex (bytes (decimal start))) "?"))
 
-abbrev pub diagnosticShown : List ℕ → Words → String
-diagnosticShown text ws = ";D" ++ words (take 4 ws) ++ ",," ++ valueShown text (wordAt ws 3) (wordAt ws 4) (wordAt ws 5)
+abbrev pub diagnostic_shown : List ℕ → Words → String
+diagnostic_shown text ws = ";D" ++ words (take 4 ws) ++ ",," ++ value_shown text (word_at ws 3) (word_at ws 4) (word_at ws 5)
 
 -- number, place, counts, the stored records
-abbrev pub storedShown : List ℕ → Reading → String
-storedShown text r =
-    decimal (r .number) ++ "," ++ decimal (r .place) ++ "," ++ decimal (r .notes) ++ "," ++ decimal (r .bars) ++ "," ++ decimal (r .diagnostics)
-    ++ records noteShown note_size (r .notes) (r .note_cells)
-    ++ records barShown bar_size (r .bars) (r .bar_cells)
-    ++ records (diagnosticShown text) diagnostic_size (r .diagnostics) (r .diagnostic_cells)
+abbrev pub stored_shown : List ℕ → Reading → String
+stored_shown text r =
+    decimal r.number ++ "," ++ decimal r.place ++ "," ++ decimal r.notes ++ "," ++ decimal r.bars ++ "," ++ decimal r.diagnostics
+    ++ records note_shown note_size r.notes r.note_cells
+    ++ records bar_shown bar_size r.bars r.bar_cells
+    ++ records (diagnostic_shown text) diagnostic_size r.diagnostics r.diagnostic_cells
 
 -- how many cells there are; those from n on are 0
-abbrev pub bufferShown : ℕ → Words → String
-bufferShown n ws = decimal (length ws) ++ restShown (drop n ws)
+abbrev pub buffer_shown : ℕ → Words → String
+buffer_shown n ws = decimal (length ws) ++ rest_shown (drop n ws)
 
 -- the four buffers, the diagnostics' up to so many cells
-abbrev pub cellsShown : ℕ → Reading → String
-cellsShown looked r =
-    bufferShown (note_size * r .notes) (r .note_cells)
-    ++ "," ++ bufferShown (bar_size * r .bars) (r .bar_cells)
-    ++ "," ++ bufferShown 0 (r .figure_cells)
-    ++ "," ++ bufferShown (diagnostic_size * r .diagnostics) (take looked (r .diagnostic_cells))
+abbrev pub cells_shown : ℕ → Reading → String
+cells_shown looked r =
+    buffer_shown (note_size * r.notes) r.note_cells
+    ++ "," ++ buffer_shown (bar_size * r.bars) r.bar_cells
+    ++ "," ++ buffer_shown 0 r.figure_cells
+    ++ "," ++ buffer_shown (diagnostic_size * r.diagnostics) (take looked r.diagnostic_cells)
 
 -- lent are so many words for notes, bars and figure, and so many diagnostics
 abbrev pub read : List ℕ → ℕ → ℕ → ℕ → ℕ → Reading
 read text notes bars figure diagnostics = reading text (record { notes = notes; bars = bars; figure = figure; diagnostics = diagnostics })
 
 abbrev pub stored : List ℕ → ℕ → ℕ → ℕ → ℕ → ℕ → String
-stored text notes bars figure diagnostics looked = storedShown text (read text notes bars figure diagnostics)
+stored text notes bars figure diagnostics looked = stored_shown text (read text notes bars figure diagnostics)
 
 abbrev pub cells : List ℕ → ℕ → ℕ → ℕ → ℕ → ℕ → String
-cells text notes bars figure diagnostics looked = cellsShown looked (read text notes bars figure diagnostics)
+cells text notes bars figure diagnostics looked = cells_shown looked (read text notes bars figure diagnostics)
 
 abbrev pub answer : List ℕ → ℕ → ℕ → ℕ → ℕ → ℕ → String
-answer text notes bars figure diagnostics looked = let r = read text notes bars figure diagnostics in storedShown text r ++ ";" ++ cellsShown looked r
+answer text notes bars figure diagnostics looked = let r = read text notes bars figure diagnostics in stored_shown text r ++ ";" ++ cells_shown looked r
 """
 
 # limits that need a long text or many cells: 65,536 bytes, 65,535 bytes, 131,071 notes, 100 and 1,000 bars; of malformed texts too; what is checked at a closing in its own bar alone
@@ -820,56 +816,58 @@ def write(path, content):
     path.write_text(content)
 
 
-def write_crate(name, module, content):
-    folder = WORK / "crates" / name
-    write(folder / "src" / "lib.rt", "// specs only\n")
-    write(folder / "specs" / "Lib.antt", "pub mod %s\n" % module)
-    write(folder / "specs" / (module + ".antt"), content)
+class Prover:
+    """a repository of its own: the definitions, what shows an answer, and a crate of theorems for each batch of statements"""
 
+    def __init__(self, work, jobs):
+        self.crates, self.jobs = Path(work) / "crates", jobs
+        for part in ("src", "specs"):
+            shutil.copytree(ROOT / "crates" / "rules" / part, self.crates / "rules" / part)
+        self.write_crate("shown", "specs", "Shown", SHOWN)
 
-def prepare():
-    shutil.rmtree(WORK / "crates", ignore_errors=True)
-    for part in ("src", "specs"):
-        shutil.copytree(ROOT / "crates" / "rules" / part, WORK / "crates" / "rules" / part)
-    write_crate("shown", "Shown", SHOWN)
+    def write_crate(self, name, part, module, content):
+        write(self.crates / name / "src" / "lib.rt", "// No code.\n#![tactic(auto)]\n")
+        write(self.crates / name / part / "Lib.antt", "pub mod %s\n" % module)
+        write(self.crates / name / part / (module + ".antt"), content)
+
+    def check(self, batches):
+        """of each batch, the messages by statement"""
+        for old in self.crates.glob("texts*"):
+            shutil.rmtree(old)
+        crates = ["texts%d" % i for i in range(len(batches))]
+        write(self.crates.parent / "crates.txt", "rules:\nshown: rules\n" + "".join(c + ": rules shown\n" for c in crates))
+        for crate, batch in zip(crates, batches):
+            self.write_crate(crate, "proofs", "Texts", theorems(batch))
+        command = ["rt", "all", "check", "--jobs", str(self.jobs)]
+        said = subprocess.run(command, cwd=self.crates.parent, stdout=subprocess.PIPE, stderr=subprocess.STDOUT, text=True).stdout
+        sections = re.split(r"^== (\S+)$", said, flags=re.M)
+        sections = dict(zip(sections[1::2], sections[2::2]))
+        answers = []
+        for crate in crates:
+            parts = re.split(r"^\S*Texts\.antt:\d+:\d+: error: `t(\d+)`", sections.get(crate, ""), flags=re.M)
+            errors = dict(zip(map(int, parts[1::2]), parts[2::2]))
+            proved = re.search(r"^%s: ok$" % crate, sections.get("summary", ""), re.M)
+            if bool(errors) == bool(proved):
+                sys.exit("rt could not tell of %s:\n%s" % (crate, sections.get(crate, said)[-2000:]))
+            answers.append(errors)
+        return answers
 
 
 def theorems(statements):
     names = {module: found for module, found in unfoldable().items() if found}
-    lines = ["use mathlib.Core.Path.{_≡_, refl}", "use mathlib.Core.List.{[], _∷_}", "use Prim.Native.String.{slice}", "use lib.ListN.{replicate}"]
-    lines += ["use Rattle·rules.specs.Text.{bytes}", "use Rattle·shown.specs.Shown.{stored, cells, answer}"]
-    lines += ["use Rattle·rules.specs.%s.{%s}" % (module, ", ".join(found)) for module, found in names.items()]
+    lines = ["use Rattle.std.specs.Prelude.{◌≡◌, refl, [], ◌∷◌, replicate}", "use Prim.Native.String.{slice}"]
+    lines += ["use Rattle.rules.specs.Text.{bytes}", "use Rattle.shown.specs.Shown.{stored, cells, answer}"]
+    lines += ["use Rattle.rules.specs.%s.{%s}" % (module, ", ".join(found)) for module, found in names.items()]
     unfolding = "unfolding " + " ".join(n for found in names.values() for n in found)
     for i, s in enumerate(statements):
         lines += ["", "t%d : %s" % (i, s), unfolding, "t%d = refl" % i]
     return "\n".join(lines) + "\n"
 
 
-def check(batches):
-    """proves each batch of statements in a crate of its own, two at a time; of each batch, the messages by statement"""
-    crates = ["texts%d" % i for i in range(len(batches))]
-    write(WORK / "crates.txt", "rules:\nshown: rules\n" + "".join(c + ": rules shown\n" for c in crates))
-    for crate, batch in zip(crates, batches):
-        write_crate(crate, "Texts", theorems(batch))
-    logs = [WORK / "target" / "log" / (c + ".out") for c in crates]
-    for log in logs:
-        log.unlink(missing_ok=True)
-    subprocess.run(["rt", "check"], cwd=WORK, env={"RT_JOBS": "2", **os.environ}, stdout=subprocess.DEVNULL, stderr=subprocess.DEVNULL)
-    answers = []
-    for crate, log in zip(crates, logs):
-        said = log.read_text() if log.exists() else ""
-        parts = re.split(r"^\S*Texts\.antt:\d+:\d+: error: `t(\d+)`", said, flags=re.M)
-        errors = dict(zip(map(int, parts[1::2]), parts[2::2]))
-        if not errors and "rt: %s proved" % crate not in said:
-            sys.exit("rt check could not tell of %s; %s has:\n%s" % (crate, log.relative_to(ROOT), said[-2000:]))
-        answers.append(errors)
-    return answers
-
-
 # ---- differences
 
 
-def smaller(case, oracle):
+def smaller(case, oracle, prover):
     """a smaller text, found by leaving out parts, that still differs"""
     while len(case.text) < 300:
         size = len(case.text)
@@ -878,25 +876,25 @@ def smaller(case, oracle):
         oracle.ask(asked(texts))
         texts = [t for t in texts if Expectation(t, oracle).covered()]
         cases = [Case(t, oracle, lent=case.lent) for t in texts]
-        errors = check([[c.statement() for c in cases]])[0] if cases else {}
+        errors = prover.check([[c.statement() for c in cases]])[0] if cases else {}
         if not errors:
             return case
         case = min((cases[i] for i in errors), key=lambda c: len(c.text))
     return case
 
 
-def computed(case):
+def computed(case, prover):
     """the stored part as the prover's messages show it, and whether the other cells agree"""
     size = 80
     pieces = ['slice (%s) %d %d ≡ ""' % (case.call("stored"), i * size, (i + 1) * size) for i in range(2 * len(case.stored) // size + 3)]
-    errors = check([pieces + ['%s ≡ "%s"' % (case.call("cells"), case.cells)]])[0]
+    errors = prover.check([pieces + ['%s ≡ "%s"' % (case.call("cells"), case.cells)]])[0]
     found = [re.search(r'"([^"]*)"`\s+\(found\)', errors[i]) for i in range(len(pieces)) if i in errors]
     return "".join(f[1] if f else "(too long to show)" for f in found), len(pieces) not in errors
 
 
-def report(case, oracle):
-    small = smaller(case, oracle)
-    line, agree = computed(small)
+def report(case, oracle, prover):
+    small = smaller(case, oracle, prover)
+    line, agree = computed(small, prover)
     print("DIFFERS   %r\nsmaller   %r\nlent      %r\nexpected  %s\ncomputed  %s%s" % (case.text, small.text, small.lent, small.stored, line, "" if agree else "\nother cells differ"), flush=True)
 
 
@@ -908,6 +906,7 @@ def main():
     options.add_argument("--count", type=int, default=5000, help="texts, the short ones among them")
     options.add_argument("--seed", type=int, default=1)
     options.add_argument("--batch", type=int, default=250, help="theorems in a file")
+    options.add_argument("--jobs", type=int, default=2, help="files that are checked side by side")
     options.add_argument("--oracle", default=os.environ.get("ORACLE"))
     given = options.parse_args()
     if not given.oracle:
@@ -926,12 +925,13 @@ def main():
     cases = [Case(e.text, oracle, r) for e in expected if e.covered()]
     left_out = sum(not e.same_rests() for e in expected), sum(not e.same_form() for e in expected)
     r.shuffle(cases)
-    prepare()
     batches = [cases[i:i + given.batch] for i in range(0, len(cases), given.batch)]
-    limits, *answers = check([['%s ≡ "%s"' % s for s in LIMITS]] + [[c.statement() for c in b] for b in batches])
-    wrong = sorted((b[i] for b, errors in zip(batches, answers) for i in errors), key=lambda c: len(c.text))
-    for case in wrong[:5]:
-        report(case, oracle)
+    with tempfile.TemporaryDirectory(prefix="definitions-") as work:
+        prover = Prover(work, given.jobs)
+        limits, *answers = prover.check([['%s ≡ "%s"' % s for s in LIMITS]] + [[c.statement() for c in b] for b in batches])
+        wrong = sorted((b[i] for b, errors in zip(batches, answers) for i in errors), key=lambda c: len(c.text))
+        for case in wrong[:5]:
+            report(case, oracle, prover)
     for case in wrong[5:]:
         print("DIFFERS   %r" % case.text)
     for i in limits:
