@@ -8,7 +8,6 @@ use Rattle.reading.specs.Data.{attributes_in}
 use Rattle.reading.proofs.HoldLaws.{Holds}
 use Rattle.reading.proofs.data.read_data.Given as goal
 
--- Written by tools/walk/run from tools/walk/proof.txt: change that file, not this one.
 abbrev pub invariant-loop-at : goal.invariant-loop-at
 invariant-loop-at l = Holds l.data l.start (attributes_in l.initial.st.attributes) l.diagnostics l.initial.scratch (length l.initial.notes) (length l.initial.bars) (length l.initial.figure) l.room 0 l.at l.tails l.st l.table (keeping l.pattern l.kept) l.cursor l.notes l.bars l.figure l.scratch
 
