@@ -1,4 +1,4 @@
-// Rows and columns: what is said goes to standard output at once. A column is a character.
+// Rows and columns of what is said, which goes to a writer. A column is a character.
 ghost use Rattle.std.specs.Prelude.{◌<◌, ◌≤◌, length};
 
 use super::characters::character_end;

@@ -4,6 +4,7 @@
 ghost use Rattle.std.specs.Io.{ReadsAtMost};
 ghost use Rattle.std.specs.Prelude.{◌≡◌, pos, nat_abs, get_or};
 
+use records::cells::natural;
 use std::io;
 use std::io::Read;
 
@@ -11,21 +12,30 @@ use std::io::Read;
 pub fn byte_at(bytes: &[u8], i: usize) -> u8
     ensures { result ≡ get_or bytes.now i 0 }
 {
-    bytes.get(i).copied().unwrap_or(0)
+    if i < bytes.len() {
+        return bytes[i];
+    }
+    0
 }
 
 // The word at `i`, 0 past the end.
 pub fn word_at(words: &[i32], i: usize) -> i32
     ensures { result ≡ get_or words.now i (pos 0) }
 {
-    words.get(i).copied().unwrap_or(0)
+    if i < words.len() {
+        return words[i];
+    }
+    0
 }
 
 // How far a word is from 0.
 pub fn magnitude(word: i32) -> u32
     ensures { result ≡ nat_abs word }
 {
-    word.unsigned_abs()
+    if word < 0 {
+        return natural(-1 - word) + 1;
+    }
+    natural(word)
 }
 
 // Puts the input's first bytes into the buffer, until it is full or the input ends: how many.
