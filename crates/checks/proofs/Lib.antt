@@ -1,3 +1,4 @@
 pub mod TestLaws
 pub mod StoredLaws
 pub mod CheckLaws
+pub mod Sets

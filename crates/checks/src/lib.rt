@@ -74,6 +74,7 @@ pub fn check_bar(counts: Counts, lent: usize) -> u8
 }
 
 // After the data: 12 where the bar to store has no room, at data length in characters plus 1; 13 where no record is stored.
+#[tactic(auto, using(crate::proofs::Sets::check_end_facts))]
 pub fn check_end(counts: Counts, lent: usize, data: &[u8]) -> Stop
     requires { length «data».now < word_limit }
     ensures { result ≡ end_check counts lent (characters_in «data».now) }

@@ -8,6 +8,7 @@ use character::{is_all_blank, is_formed};
 use limits::Pae;
 
 // The first of checks 1 to 4 that fails, 0 where none does.
+#[tactic(auto, unfolding(crate::specs::Entry::entry_check))]
 pub fn entry_check(text: &[u8], cells: usize) -> u8
     ensures { result ≡ entry_check text.now cells }
 {
