@@ -21,7 +21,7 @@ use rows::terms::say_counted;
 use show::read_full;
 use std::env::Env;
 use std::io;
-use std::io::{BufWriter, Write};
+use std::io::Write;
 use tables::bars::{Defaults, show_bars};
 use tables::notes::show_notes;
 use texts::{end_of_line, keysig_line, separator, text_end, without_line_end};
@@ -387,25 +387,19 @@ fn input_of<R: Env + Input>(rt: &R, input: &mut [u8], i: usize) -> io::Result<us
     Ok(argument(rt, i, input).unwrap_or(0))
 }
 
-// The program: what the arguments ask for.
-fn run<R: Env + Input, W: Write>(rt: &R, out: &mut W) -> io::Result<()> {
-    let options = options_given(rt);
+fn main(rt: HostRuntime) -> io::Result<()> {
+    let mut out = io::writer(&rt);
+    let options = options_given(&rt);
     let mut input = [0u8; INPUT];
     if options.help {
-        return show_help(out);
+        return show_help(&mut out);
     }
     if options.bad != 0 {
-        return refuse_argument(rt, out, &mut input, options.bad);
+        return refuse_argument(&rt, &mut out, &mut input, options.bad);
     }
-    let size = input_of(rt, &mut input, options.text)?;
+    let size = input_of(&rt, &mut input, options.text)?;
     if size == INPUT {
-        return say_row(out, b"The input is too long: 131,072 bytes or more.");
+        return say_row(&mut out, b"The input is too long: 131,072 bytes or more.");
     }
-    show_input(out, &input[..size], options)
-}
-
-fn main(rt: HostRuntime) -> io::Result<()> {
-    let mut out = BufWriter::new(rt.alloc(), io::writer(&rt))?;
-    run(&rt, &mut out)?;
-    out.flush()
+    show_input(&mut out, &input[..size], options)
 }

@@ -9,7 +9,7 @@ use records::cells::{BAR, DIAGNOSTIC, FIRST_PITCH, NOTE, PITCH, clear, natural};
 use records::note::PITCH_COUNT;
 use show::{magnitude, read_full, word_at};
 use std::io;
-use std::io::{BufWriter, Write};
+use std::io::Write;
 use text::line_end;
 
 // Lent for every line: 16 notes, 16 bars, 16 notes of a figure, 1,024 diagnostics.
@@ -177,7 +177,7 @@ fn read_lines<W: Write>(
 fn main(rt: HostRuntime) -> io::Result<()> {
     let mut input = [0u8; INPUT];
     let size = read_full(&mut rt.reader(), &mut input)?;
-    let mut out = BufWriter::new(rt.alloc(), io::writer(&rt))?;
+    let mut out = io::writer(&rt);
     let mut notes = [0i32; NOTES];
     let mut bars = [0i32; BARS];
     let mut figure = [0i32; FIGURE];
@@ -189,6 +189,5 @@ fn main(rt: HostRuntime) -> io::Result<()> {
         &mut bars,
         &mut figure,
         &mut found,
-    )?;
-    out.flush()
+    )
 }

@@ -13,7 +13,7 @@ use records::cells::{BAR, NOTE};
 use row::{print_line, print_row};
 use show::read_full;
 use std::io;
-use std::io::{BufWriter, Write};
+use std::io::Write;
 use table::{find, is_heading, least, lent_number, make_text};
 
 // The table has at most so many bytes.
@@ -99,7 +99,5 @@ fn run_table<W: Write>(out: &mut W, table: &[u8]) -> io::Result<()> {
 fn main(rt: HostRuntime) -> io::Result<()> {
     let mut table = [0u8; TABLE];
     let size = read_full(&mut rt.reader(), &mut table)?;
-    let mut out = BufWriter::new(rt.alloc(), io::writer(&rt))?;
-    run_table(&mut out, &table[..size])?;
-    out.flush()
+    run_table(&mut io::writer(&rt), &table[..size])
 }

@@ -12,7 +12,7 @@ use records::cells::{BAR, DIAGNOSTIC, FIRST_PITCH, NOTE, PITCH, clear, natural};
 use records::note::PITCH_COUNT;
 use show::{byte_at, magnitude, read_full, word_at};
 use std::io;
-use std::io::{BufWriter, Write};
+use std::io::Write;
 
 // The list has at most so many bytes.
 const LIST: usize = 1048576;
@@ -534,7 +534,7 @@ fn room() -> [u8; LIST]
 fn main(rt: HostRuntime) -> io::Result<()> {
     let mut list = room();
     let size = read_full(&mut rt.reader(), &mut list)?;
-    let mut out = BufWriter::new(rt.alloc(), io::writer(&rt))?;
+    let mut out = io::writer(&rt);
     let tally = replay_lent(&mut out, &list[..size])?;
     print_count(&mut out, tally.texts, b" texts, ")?;
     print_count(&mut out, tally.differ, b" differ\n")?;
@@ -542,6 +542,5 @@ fn main(rt: HostRuntime) -> io::Result<()> {
     print_count(&mut out, tally.cards, b" come back from their cards\n")?;
     print_count(&mut out, tally.notes, b" notes\n")?;
     print_count(&mut out, tally.bars, b" bars\n")?;
-    print_count(&mut out, tally.diagnostics, b" diagnostics\n")?;
-    out.flush()
+    print_count(&mut out, tally.diagnostics, b" diagnostics\n")
 }
