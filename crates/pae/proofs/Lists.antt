@@ -3,7 +3,7 @@ use mathlib.Core.Path.{◌≡◌, refl, sym, ◌∙◌, ap, subst}
 use Prim.Native.Nat.{ℕ, zero, suc, ◌+◌, ◌-◌, ◌<◌, ◌≤◌}
 use native.Mathlib.Numerals.{add-one}
 use native.Mathlib.Omega.{arith}
-use mathlib.Core.Bool.{Bool, true, false, cond}
+use mathlib.Core.Bool.{Bool, true, false, not, cond}
 use mathlib.Core.List.{List, [], ◌∷◌, ◌++◌}
 use lib.Dec.{T, ltb, lt→ltb}
 use lib.IntN.{ℤ}
@@ -14,14 +14,22 @@ use Rattle.pae.specs.List.{blank, blanks, record_at, published}
 
 -- ---- what `stored` chooses
 
-is-in : {X : Type 0} (t : Bool) (p q : X) → T t → p ≡ cond t p q
+pub is-in : {X : Type 0} (t : Bool) (p q : X) → T t → p ≡ cond t p q
 is-in true p q _ = refl
 is-in false p q z = absurd z
+
+pub is-full : {X : Type 0} (t : Bool) (p q : X) → T (not t) → q ≡ cond t p q
+is-full true p q z = absurd z
+is-full false p q _ = refl
 
 -- ---- the list after i turns of `clear`
 abbrev pub upto : List Diagnostic → ℕ → List Diagnostic
 upto ys zero = ys
 upto ys (suc i) = set (upto ys i) i blank
+
+pub length-upto : (ys : List Diagnostic) (i : ℕ) → length (upto ys i) ≡ length ys
+length-upto ys zero = refl
+length-upto ys (suc i) = length-set (upto ys i) i blank ∙ length-upto ys i
 
 upto-cons : (y : Diagnostic) (ys : List Diagnostic) (i : ℕ) → upto (y ∷ ys) (suc i) ≡ blank ∷ upto ys i
 upto-cons y ys zero = refl
@@ -36,7 +44,7 @@ length-stored : (ds : List Diagnostic) (t : Bool) (c : ℕ) (d : Diagnostic) →
 length-stored ds true c d = length-set ds c d
 length-stored ds false c d = refl
 
-length-published : (ds : List Diagnostic) (ws : List ℤ) (i : ℕ) → length (published ds ws i) ≡ length ds
+pub length-published : (ds : List Diagnostic) (ws : List ℤ) (i : ℕ) → length (published ds ws i) ≡ length ds
 length-published ds ws zero = refl
 length-published ds ws (suc i) = length-stored (published ds ws i) (ltb i (length (published ds ws i))) i (record_at ws i) ∙ length-published ds ws i
 
