@@ -1,3 +1,4 @@
 pub mod FormLaws
 pub mod CharacterLaws
 pub mod TrimLaws
+pub mod Sets

@@ -14,6 +14,7 @@ use Rattle.rules.specs.Text.{run_length, every}
 use Rattle.rules.specs.Characters.{within_one, continues, character_size, six_bits, code_of, code_point, white_space, is_blank, in_blank, blanks_size, all_blank, non_blanks_size, trim_end}
 use Rattle.character.specs.Blanks.{is_low_blank}
 use Rattle.character.specs.Last.{last_start}
+use Rattle.character.proofs.FormLaws.{part_to_end}
 use Rattle.character.proofs.CharacterLaws.{size-inside, blank-low}
 
 -- ---- blanks at the start
@@ -89,6 +90,14 @@ non-more n xs i p h e =
   where
     count : n ≡ suc (n - 1)
     count = omega (arith, p)
+
+-- the same of the slice from i on, as the code has it
+pub non-more-part : (n : ℕ) (xs : List ℕ) (i : ℕ) → 0 < n → i < length xs → is_blank (take (length xs - i) (drop i xs)) ≡ false
+    → non_blanks_size n (drop i xs) ≡ character_size (take (length xs - i) (drop i xs)) + non_blanks_size (n - 1) (drop (i + character_size (take (length xs - i) (drop i xs))) xs)
+non-more-part n xs i p h e = rw (part_to_end xs i) (non-more n xs i p h (ap is_blank (sym (part_to_end xs i)) ∙ e))
+
+pub part-within : (xs : List ℕ) (i : ℕ) → i < length xs → i + character_size (take (length xs - i) (drop i xs)) ≤ length xs
+part-within xs i h = rw (part_to_end xs i) (omega (arith, h, length-drop i xs, size-inside (drop i xs) (omega (arith, h, length-drop i xs))))
 
 -- ---- a text cut where a character begins: the one at its start stays as it is
 

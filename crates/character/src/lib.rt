@@ -331,6 +331,7 @@ pub fn is_all_blank(text: &[u8]) -> bool
 }
 
 // The size of the non-blanks at the start of `rest`, so many characters at most.
+#[tactic(auto, using(crate::proofs::Sets::non_blanks_size_facts))]
 pub fn non_blanks_size(rest: &[u8], most: usize) -> usize
     ensures { result ≡ non_blanks_size most rest.now }
 {

@@ -1,5 +1,4 @@
 use mathlib.Core.Path.{sym, ◌∙◌}
-use mathlib.Core.Bool.{true}
 use Rattle.character.proofs.CharacterLaws.{last-at}
 use Rattle.character.proofs.last_start.Goals as goal
 
