@@ -816,11 +816,16 @@ def write(path, content):
     path.write_text(content)
 
 
+# what the prover says of a statement that takes more steps than it gives one
+LIMITED = "stopped at the step limit"
+
+
 class Prover:
-    """a repository of its own: the definitions, what shows an answer, and a crate of theorems for each batch of statements"""
+    """a repository of its own: the definitions, what shows an answer, and a crate of theorems for each batch of statements; and the
+    statements of which the prover could not tell within its limit"""
 
     def __init__(self, work, jobs):
-        self.crates, self.jobs = Path(work) / "crates", jobs
+        self.crates, self.jobs, self.untold = Path(work) / "crates", jobs, []
         for part in ("src", "specs"):
             shutil.copytree(ROOT / "crates" / "rules" / part, self.crates / "rules" / part)
         self.write_crate("shown", "specs", "Shown", SHOWN)
@@ -831,7 +836,7 @@ class Prover:
         write(self.crates / name / part / (module + ".antt"), content)
 
     def check(self, batches):
-        """of each batch, the messages by statement"""
+        """of each batch, the messages by statement, of those that are false"""
         for old in self.crates.glob("texts*"):
             shutil.rmtree(old)
         crates = ["texts%d" % i for i in range(len(batches))]
@@ -843,13 +848,14 @@ class Prover:
         sections = re.split(r"^== (\S+)$", said, flags=re.M)
         sections = dict(zip(sections[1::2], sections[2::2]))
         answers = []
-        for crate in crates:
+        for crate, batch in zip(crates, batches):
             parts = re.split(r"^\S*Texts\.antt:\d+:\d+: error: `t(\d+)`", sections.get(crate, ""), flags=re.M)
             errors = dict(zip(map(int, parts[1::2]), parts[2::2]))
             proved = re.search(r"^%s: ok$" % crate, sections.get("summary", ""), re.M)
             if bool(errors) == bool(proved):
                 sys.exit("rt could not tell of %s:\n%s" % (crate, sections.get(crate, said)[-2000:]))
-            answers.append(errors)
+            answers.append({i: e for i, e in errors.items() if LIMITED not in e})
+            self.untold += [batch[i] for i, e in errors.items() if LIMITED in e]
         return answers
 
 
@@ -929,17 +935,20 @@ def main():
     with tempfile.TemporaryDirectory(prefix="definitions-") as work:
         prover = Prover(work, given.jobs)
         limits, *answers = prover.check([['%s ≡ "%s"' % s for s in LIMITS]] + [[c.statement() for c in b] for b in batches])
+        untold = list(prover.untold)
         wrong = sorted((b[i] for b, errors in zip(batches, answers) for i in errors), key=lambda c: len(c.text))
         for case in wrong[:5]:
             report(case, oracle, prover)
     for case in wrong[5:]:
         print("DIFFERS   %r" % case.text)
+    for statement in untold:
+        print("NOT TOLD  %s" % statement[:200])
     for i in limits:
         print("DIFFERS   %s\nexpected  %s" % LIMITS[i])
     numbers = Counter(c.number for c in cases)
     found = Counter(d for c in cases for d in c.found)
     rests, crossing = (sum(map(which, (c.text for c in cases))) for which in (has_rests, closes_later))
-    print("texts: %d, %d of them with rests of whole bars, %d closing in a later bar; different: %d" % (len(cases) + len(LIMITS), rests, crossing, len(wrong) + len(limits)))
+    print("texts: %d, %d of them with rests of whole bars, %d closing in a later bar; different: %d; not told within the prover's limit: %d" % (len(cases) + len(LIMITS), rests, crossing, len(wrong) + len(limits), len(untold)))
     print("left out: %d for `=`, %d that close in a later bar and become a field form without it" % left_out)
     print("accepted: %d; refused: %s" % (numbers[0], ", ".join("%d: %d" % (n, numbers[n]) for n in sorted(numbers) if n)))
     print("diagnostics: " + ", ".join("d%d: %d" % (d, found[d]) for d in range(1, 21)))
