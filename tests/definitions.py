@@ -15,7 +15,8 @@ The expected line comes from the oracle. The words and refusals that the Rust do
 oracle's answers on the text cut behind each token; those for limits 1 and 7 are written out. Of the diagnostic cells
 all are looked at for one text in eight, else the stored ones and 20 more. All short texts, and every blank and every
 edge of UTF-8 at every place, are among them from a count of 9,544 on. A text that differs is cut down to a small one
-that still differs.
+that still differs; the exit status is then 1. Of a text with hundreds of notes the prover may not tell within its limit of
+steps: it is printed as NOT TOLD, and the exit status is 2.
 
 A text with rests of whole bars (`=`), which the Rust reads otherwise, is written out for the oracle, `=3` as `-/-/-`.
 That holds but for kind, length and places, where no tie waits at the `=` and the pattern has one length; elsewhere, what
@@ -816,16 +817,16 @@ def write(path, content):
     path.write_text(content)
 
 
-# what the prover says of a statement that takes more steps than it gives one
-LIMITED = "stopped at the step limit"
+def is_untold(messages):
+    """whether the prover couldn't tell of a statement, since it takes more steps than the prover gives one"""
+    return all("stopped at the step limit" in m for m in messages)
 
 
 class Prover:
-    """a repository of its own: the definitions, what shows an answer, and a crate of theorems for each batch of statements; and the
-    statements of which the prover could not tell within its limit"""
+    """a repository of its own: the definitions, what shows an answer, and a crate of theorems for each batch of statements"""
 
     def __init__(self, work, jobs):
-        self.crates, self.jobs, self.untold = Path(work) / "crates", jobs, []
+        self.crates, self.jobs = Path(work) / "crates", jobs
         for part in ("src", "specs"):
             shutil.copytree(ROOT / "crates" / "rules" / part, self.crates / "rules" / part)
         self.write_crate("shown", "specs", "Shown", SHOWN)
@@ -836,7 +837,7 @@ class Prover:
         write(self.crates / name / part / (module + ".antt"), content)
 
     def check(self, batches):
-        """of each batch, the messages by statement, of those that are false"""
+        """of each batch, the messages by statement, of those that are not proved"""
         for old in self.crates.glob("texts*"):
             shutil.rmtree(old)
         crates = ["texts%d" % i for i in range(len(batches))]
@@ -848,14 +849,15 @@ class Prover:
         sections = re.split(r"^== (\S+)$", said, flags=re.M)
         sections = dict(zip(sections[1::2], sections[2::2]))
         answers = []
-        for crate, batch in zip(crates, batches):
+        for crate in crates:
             parts = re.split(r"^\S*Texts\.antt:\d+:\d+: error: `t(\d+)`", sections.get(crate, ""), flags=re.M)
-            errors = dict(zip(map(int, parts[1::2]), parts[2::2]))
+            errors = {}
+            for i, message in zip(map(int, parts[1::2]), parts[2::2]):
+                errors.setdefault(i, []).append(message)
             proved = re.search(r"^%s: ok$" % crate, sections.get("summary", ""), re.M)
             if bool(errors) == bool(proved):
                 sys.exit("rt could not tell of %s:\n%s" % (crate, sections.get(crate, said)[-2000:]))
-            answers.append({i: e for i, e in errors.items() if LIMITED not in e})
-            self.untold += [batch[i] for i, e in errors.items() if LIMITED in e]
+            answers.append(errors)
         return answers
 
 
@@ -883,6 +885,7 @@ def smaller(case, oracle, prover):
         texts = [t for t in texts if Expectation(t, oracle).covered()]
         cases = [Case(t, oracle, lent=case.lent) for t in texts]
         errors = prover.check([[c.statement() for c in cases]])[0] if cases else {}
+        errors = [i for i in errors if not is_untold(errors[i])]
         if not errors:
             return case
         case = min((cases[i] for i in errors), key=lambda c: len(c.text))
@@ -894,7 +897,7 @@ def computed(case, prover):
     size = 80
     pieces = ['slice (%s) %d %d ≡ ""' % (case.call("stored"), i * size, (i + 1) * size) for i in range(2 * len(case.stored) // size + 3)]
     errors = prover.check([pieces + ['%s ≡ "%s"' % (case.call("cells"), case.cells)]])[0]
-    found = [re.search(r'"([^"]*)"`\s+\(found\)', errors[i]) for i in range(len(pieces)) if i in errors]
+    found = [re.search(r'"([^"]*)"`\s+\(found\)', "".join(errors[i])) for i in range(len(pieces)) if i in errors]
     return "".join(f[1] if f else "(too long to show)" for f in found), len(pieces) not in errors
 
 
@@ -935,16 +938,17 @@ def main():
     with tempfile.TemporaryDirectory(prefix="definitions-") as work:
         prover = Prover(work, given.jobs)
         limits, *answers = prover.check([['%s ≡ "%s"' % s for s in LIMITS]] + [[c.statement() for c in b] for b in batches])
-        untold = list(prover.untold)
-        wrong = sorted((b[i] for b, errors in zip(batches, answers) for i in errors), key=lambda c: len(c.text))
+        failed = [(b[i], is_untold(errors[i])) for b, errors in zip(batches, answers) for i in errors]
+        wrong = sorted((c for c, untold in failed if not untold), key=lambda c: len(c.text))
         for case in wrong[:5]:
             report(case, oracle, prover)
     for case in wrong[5:]:
         print("DIFFERS   %r" % case.text)
-    for statement in untold:
-        print("NOT TOLD  %s" % statement[:200])
     for i in limits:
         print("DIFFERS   %s\nexpected  %s" % LIMITS[i])
+    untold = [c.text for c, untold in failed if untold]
+    for text in untold:
+        print("NOT TOLD  %r" % text)
     numbers = Counter(c.number for c in cases)
     found = Counter(d for c in cases for d in c.found)
     rests, crossing = (sum(map(which, (c.text for c in cases))) for which in (has_rests, closes_later))
@@ -952,7 +956,7 @@ def main():
     print("left out: %d for `=`, %d that close in a later bar and become a field form without it" % left_out)
     print("accepted: %d; refused: %s" % (numbers[0], ", ".join("%d: %d" % (n, numbers[n]) for n in sorted(numbers) if n)))
     print("diagnostics: " + ", ".join("d%d: %d" % (d, found[d]) for d in range(1, 21)))
-    sys.exit(1 if wrong or limits else 0)
+    sys.exit(1 if wrong or limits else 2 if untold else 0)
 
 
 if __name__ == "__main__":
