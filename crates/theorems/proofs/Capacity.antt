@@ -158,6 +158,10 @@ module _ (lent : LentRecords) (k : Attributes) where
     marks = λ x e m o q. by-mark (state_after k e) m (sym (ap (λ a. given a false (λ m. over_marks m (state_after k e))) q) ∙ (none-fails x e o).1.1.1.0);
   }
 
+  -- after tokens none of which is refused, no stored note has more than 8 marks
+  pub marks-few : (e : List Item) → Passes e → All (λ n. length n.notations.marks ≤ mark_capacity) (stored (state_after k e))
+  marks-few = kept-all k Passes (λ e r. Few r) marks-kept
+
 -- ---- of an accepted text
 
 -- a note whose record holds all of it

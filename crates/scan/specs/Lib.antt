@@ -1,0 +1,5 @@
+pub mod Low
+pub mod Classes
+pub mod Parts
+pub mod Lines
+pub mod Keys

@@ -1,0 +1,77 @@
+// Classes of bytes, and the runs of them that a text begins with.
+ghost use Rattle.std.specs.Prelude.{◌≡◌, ◌≤◌, length};
+ghost use Rattle.std.specs.List.{prefix_len};
+ghost use Rattle.rules.specs.Text.{is_digit, is_note_letter, run_length, begins, is_text};
+
+/// A class of bytes.
+#[derive(Clone, Copy, Debug, PartialEq, Eq)]
+pub enum Class {
+    Is(u8),
+    Not(u8),
+    Continuations,
+    Digits,
+    Durations,
+    KeyBytes,
+    MeterBytes,
+    Letters,
+}
+
+impl Class {
+    ghost use Rattle.scan.specs.Classes.{in_class};
+
+    /// Whether a byte is of the class.
+    pub fn contains(self, byte: u8) -> bool
+        ensures { result ≡ in_class self byte }
+    {
+        match self {
+            Class::Is(other) => byte == other,
+            Class::Not(other) => byte != other,
+            Class::Continuations => matches!(byte, 128..=191),
+            Class::Digits => byte.is_ascii_digit(),
+            Class::Durations => byte.is_ascii_digit() || byte == b'.',
+            Class::KeyBytes => matches!(byte, b'A'..=b'G' | b'x' | b'b' | b'n' | b'[' | b']'),
+            Class::MeterBytes => byte.is_ascii_digit() || matches!(byte, b'/' | b'c' | b'.' | b'+'),
+            Class::Letters => byte.is_ascii_alphabetic(),
+        }
+    }
+
+    /// The same, in std's word.
+    fn prefix_len(self, rest: &[u8]) -> usize
+        ensures size { result ≡ prefix_len (in_class self) rest.now }
+        ensures within { result ≤ length rest.now }
+    {
+        rest.iter().take_while(|byte| self.contains(**byte)).count()
+    }
+
+    /// How many bytes of the class `rest` begins with.
+    #[tactic(auto, using(crate::proofs::Runs::prefix_len_is))]
+    pub fn run(self, rest: &[u8]) -> usize
+        ensures size { result ≡ run_length (in_class self) rest.now }
+        ensures within { result ≤ length rest.now }
+    {
+        self.prefix_len(rest)
+    }
+}
+
+/// Whether a byte is a letter from A to G.
+pub fn is_note_letter(byte: u8) -> bool
+    ensures { result ≡ is_note_letter byte }
+{
+    matches!(byte, b'A'..=b'G')
+}
+
+/// Whether `rest` begins with `with`.
+#[tactic(auto, using(crate::proofs::Runs::starts_with_is))]
+pub fn starts_with(rest: &[u8], with: &[u8]) -> bool
+    ensures { result ≡ begins with.now rest.now }
+{
+    rest.starts_with(with)
+}
+
+/// Whether `value` is exactly `text`.
+#[tactic(auto, using(crate::proofs::Runs::starts_with_is))]
+pub fn is_text(value: &[u8], text: &[u8]) -> bool
+    ensures { result ≡ is_text text.now value.now }
+{
+    value.len() == text.len() && value.starts_with(text)
+}

@@ -1,0 +1,9 @@
+pub mod Below
+pub mod CutLaws
+pub mod PatternLaws
+pub mod NumberLaws
+pub mod ClefLaws
+pub mod KeyLaws
+pub mod MeterLaws
+pub mod KindLaws
+pub mod CycleLaws

@@ -1,0 +1,11 @@
+use Rattle.std.proofs.Common.{◌≡◌, ◌+◌, ◌≤◌, length, drop}
+use Rattle.std.proofs.Math.Option.{none}
+use Rattle.tokens.specs.Signs.{sign_in}
+use Rattle.rules.specs.Values.{letters_from}
+use Rattle.tokens.proofs.attributes.count_letters.Given as goal
+
+abbrev pub invariant-loop-byte : goal.invariant-loop-byte
+invariant-loop-byte l = record {
+  within : l.count ≤ l.byte-index;
+  rest : length (letters_from none l.value) ≡ l.count + length (letters_from (sign_in l.sign) (drop l.byte-index l.value));
+}

@@ -1,0 +1,10 @@
+pub mod Whole
+pub mod Spans
+pub mod Steps
+pub mod Rhythm
+pub mod Numbers
+pub mod Attributes
+pub mod Signs
+pub mod Kinds
+pub mod Words
+pub mod Clefs
