@@ -1,0 +1,216 @@
+-- A field sets and diagnoses what its key says; the lines one after the other. Assumes nothing.
+use Rattle.std.specs.Prelude.{if◌then◌else◌, Option, Some, None, is_some}
+use Rattle.std.proofs.Common.{◌≡◌, ℕ, zero, suc, ◌+◌, Bool, true, false, ◌&&◌, ◌||◌, cond, List, [], ◌∷◌, ◌++◌, length, eqb, refl, sym, ap, ◌∙◌, subst, arith}
+use mathlib.Core.Bool.{false≢true}
+use Rattle.std.proofs.lemmas.Bool.{and_parts}
+use Rattle.std.proofs.lemmas.Bool.Decides.{nat_tests}
+use Rattle.std.proofs.Math.Option as math
+use Rattle.rules.specs.Text.{bytes, begins, is_text, Part}
+use Rattle.rules.specs.Values.{clef_of, key_of, meter_of}
+use Rattle.rules.specs.Records
+use Rattle.rules.specs.Records.{◌or◌, given, is_empty, at_line, at_field, Diagnostic}
+use Rattle.rules.specs.Diagnostics.{diagnostic, clef_diagnosed, key_diagnosed, meter_diagnosed}
+use Rattle.rules.specs.Fields.{Line, Field, Fields, field_of, is_field, has_field, field_next, field_diagnosed, line_diagnosed, part_value, no_fields, in_field_form, lines_after, lines_of, line_at, line_size, fields_after, lines_diagnosed}
+use Rattle.scan.specs.declared.lines.Lines.{Lines}
+use Rattle.scan.specs.declared.lines.TextLine.{TextLine}
+use Rattle.scan.specs.declared.lines.Field as scan_field
+use Rattle.scan.specs.Lines.{lines_left, line_of, IsFirstLine, ReadsField}
+use Rattle.stores.specs.declared.diagnostic.Diagnostics.{Diagnostics}
+use Rattle.stores.specs.Diagnostics.{list_after_all, count_after_all}
+use Rattle.scan.specs.Keys.{field_key_of}
+use Rattle.scan.specs.declared.lines.FieldKey.{FieldKey}
+use Rattle.scan.specs.declared.lines.FieldKey.TheVariants.{Clef, Keysig, Timesig, Data, Other}
+use Rattle.reader.proofs.DiagnosticLaws.{list-append, count-append}
+use Rattle.reader.specs.Fields.{field_set, field_remarks, line_next}
+
+-- ---- the tests of a key, all four by the key
+
+same_byte : (a b : ℕ) → eqb a b ≡ true → a ≡ b
+same_byte a b e = grind (arith, nat_tests)
+
+text_is : (ks xs : List ℕ) → is_text ks xs ≡ true → xs ≡ ks
+text_is [] [] t = refl
+text_is [] (x ∷ xs) t = let e = and_parts (eqb (suc (length xs)) 0) true t in absurd (omega (arith, same_byte (suc (length xs)) 0 e.0))
+text_is (k ∷ ks) [] t = absurd (false≢true (and_parts (eqb 0 (suc (length ks))) false t).1)
+text_is (k ∷ ks) (x ∷ xs) t =
+    let e = and_parts (eqb (suc (length xs)) (suc (length ks))) (eqb x k && begins ks xs) t in
+    let h = and_parts (eqb x k) (begins ks xs) e.1 in
+    let n : eqb (length xs) (length ks) ≡ true = grind (arith, nat_tests, e.0) in
+    λ i. same_byte x k h.0 i ∷ text_is ks xs (rw n h.1) i
+
+abbrev is_clef : FieldKey → Bool
+is_clef Clef = true
+is_clef Keysig = false
+is_clef Timesig = false
+is_clef Data = false
+is_clef Other = false
+
+abbrev is_keysig : FieldKey → Bool
+is_keysig Clef = false
+is_keysig Keysig = true
+is_keysig Timesig = false
+is_keysig Data = false
+is_keysig Other = false
+
+abbrev is_timesig : FieldKey → Bool
+is_timesig Clef = false
+is_timesig Keysig = false
+is_timesig Timesig = true
+is_timesig Data = false
+is_timesig Other = false
+
+abbrev is_data : FieldKey → Bool
+is_data Clef = false
+is_data Keysig = false
+is_data Timesig = false
+is_data Data = true
+is_data Other = false
+
+record Told (name : List ℕ) : Type 0 where
+  clef : is_text (bytes "clef") name ≡ is_clef (field_key_of name)
+  keysig : is_text (bytes "keysig") name ≡ is_keysig (field_key_of name)
+  timesig : is_text (bytes "timesig") name ≡ is_timesig (field_key_of name)
+  data-value : is_text (bytes "data") name ≡ is_data (field_key_of name)
+
+-- where one test holds, the name is that text, and the others fail
+key_told : (name : List ℕ) → Told name
+key_told name = by (is_text (bytes "clef") name) (is_text (bytes "keysig") name) (is_text (bytes "timesig") name) (is_text (bytes "data") name) refl refl refl refl
+  where
+    is : (text : List ℕ) → is_text text name ≡ true → Told text → Told name
+    is text t w = subst Told (sym (text_is text name t)) w
+
+    by : (c k t d : Bool) → is_text (bytes "clef") name ≡ c → is_text (bytes "keysig") name ≡ k → is_text (bytes "timesig") name ≡ t → is_text (bytes "data") name ≡ d → Told name
+    by true k t d p q r s = is (bytes "clef") p (record { clef = refl; keysig = refl; timesig = refl; data-value = refl })
+    by false true t d p q r s = is (bytes "keysig") q (record { clef = refl; keysig = refl; timesig = refl; data-value = refl })
+    by false false true d p q r s = is (bytes "timesig") r (record { clef = refl; keysig = refl; timesig = refl; data-value = refl })
+    by false false false true p q r s = is (bytes "data") s (record { clef = refl; keysig = refl; timesig = refl; data-value = refl })
+    by false false false false p q r s = record { clef = rw (p, q, r, s); keysig = rw (p, q, r, s); timesig = rw (p, q, r, s); data-value = rw (p, q, r, s) }
+
+-- ---- a field
+
+set_told : (f : Field) (s : Fields) → field_next f s ≡ field_set (field_key_of f.key) f.value s
+set_told f s = let t = key_told f.key in (λ i. by (t.clef i) (t.keysig i) (t.timesig i) (t.data-value i)) ∙ each (field_key_of f.key)
+  where
+    by : Bool → Bool → Bool → Bool → Fields
+    by c k t d = record {
+      attributes = record {
+        clef = cond c (clef_of f.value.bytes).clef math.none or s.attributes.clef;
+        fifths = cond k (math.some (key_of f.value.bytes).fifths) s.attributes.fifths;
+        key_alters = cond k (key_of f.value.bytes).alters s.attributes.key_alters;
+        meter = cond t (meter_of f.value.bytes) math.none or s.attributes.meter;
+      };
+      data_value = cond d (math.some f.value) s.data_value;
+    }
+
+    each : (key : FieldKey) → by (is_clef key) (is_keysig key) (is_timesig key) (is_data key) ≡ field_set key f.value s
+    each Clef = refl
+    each Keysig = refl
+    each Timesig = refl
+    each Data = refl
+    each Other = refl
+
+remarks_told : (n : ℕ) (f : Field) → field_diagnosed n f ≡ field_remarks (field_key_of f.key) n f.value
+remarks_told n f = let t = key_told f.key in (λ i. by (t.clef i) (t.keysig i) (t.timesig i) (t.data-value i)) ∙ each (field_key_of f.key)
+  where
+    by : Bool → Bool → Bool → Bool → List Diagnostic
+    by c k t d =
+        cond c (clef_diagnosed (at_line n) (part_value f.value) (clef_of f.value.bytes))
+        (cond k (key_diagnosed (at_line n) (part_value f.value) (key_of f.value.bytes))
+        (cond t (meter_diagnosed (at_line n) (part_value f.value) (meter_of f.value.bytes))
+        (cond d [] (diagnostic 2 (at_field n) (part_value f.value) ∷ []))))
+
+    each : (key : FieldKey) → by (is_clef key) (is_keysig key) (is_timesig key) (is_data key) ≡ field_remarks key n f.value
+    each Clef = refl
+    each Keysig = refl
+    each Timesig = refl
+    each Data = refl
+    each Other = refl
+
+module _ (l : Line) (f : Field) where
+  pub field_sets : (s : Fields) → field_of l ≡ math.some f → line_next l s ≡ field_set (field_key_of f.key) f.value s
+  field_sets s e = ap (λ o. given o s (λ g. field_next g s)) e ∙ set_told f s
+
+  pub field_remarked : field_of l ≡ math.some f → line_diagnosed l ≡ field_remarks (field_key_of f.key) l.number f.value
+  field_remarked e = ap (λ o. given o (if is_empty l.content.bytes then [] else diagnostic 1 (at_line l.number) (part_value l.content) ∷ []) (field_diagnosed l.number)) e ∙ remarks_told l.number f
+
+pub ruleset field_laws = (field_sets, field_remarked)
+
+-- ---- lines
+
+-- the lines that are read hold no field
+pub record Looked (text : List ℕ) (lines : Lines) : Type 0 where
+  pub before : List Line
+  pub left : lines_left lines before ≡ lines_of text
+  pub none : has_field before ≡ false
+
+-- what the lines that are read set and diagnose
+pub record Taken (text : List ℕ) (lines : Lines) (fields : Fields) (old : Diagnostics) (new : Diagnostics) : Type 0 where
+  pub before : List Line
+  pub left : lines_left lines before ≡ lines_of text
+  pub set : fields ≡ fields_after before
+  pub same : new.list.ghost_name ≡ old.list.ghost_name
+  pub list : new.list.now ≡ list_after_all old.list.now old.count (lines_diagnosed before)
+  pub count : new.count ≡ count_after_all old.count (lines_diagnosed before)
+
+-- a field among the earlier lines is one of them all
+pub has_later : (skip n o : ℕ) (xs : List ℕ) (before : List Line) → has_field before ≡ true → has_field (lines_after skip n o xs before) ≡ true
+unfolding lines_after
+has_later skip n o [] before e = e
+has_later zero n o (x ∷ xs) before e = has_later (line_size (x ∷ xs)) (n + 1) (o + 1) xs (line_at n o (x ∷ xs) ∷ before) (or_true (is_field (line_at n o (x ∷ xs)).content.bytes) (has_field before) e)
+  where
+    or_true : (a b : Bool) → b ≡ true → (a || b) ≡ true
+    or_true true b e = refl
+    or_true false b e = e
+has_later (suc skip) n o (x ∷ xs) before e = has_later skip n (o + 1) xs before e
+
+-- a line that is a field
+pub field_found : (l : Line) (f : Field) (before : List Line) → field_of l ≡ math.some f → has_field (l ∷ before) ≡ true
+field_found l f before e = by (is_field l.content.bytes) _ e
+  where
+    by : (b : Bool) (g : Field) → (if b then math.some g else math.none) ≡ math.some f → (b || has_field before) ≡ true
+    by true g q = refl
+    by false g q = let h : ◌≡◌ {A = Bool} false true = ap Records.is_some q in absurd (false≢true h)
+
+module _ {text : List ℕ} {lines : Lines} where
+  form_found : Looked text lines → {line : TextLine} {next : Lines} {f : Field} → IsFirstLine lines line next → field_of (line_of line) ≡ math.some f → in_field_form text ≡ true
+  form_found w {line} {next} {f} first e =
+      ap has_field (sym w.left ∙ first.left w.before) ∙ has_later 0 next.number.0 next.rest.start.0 next.rest.bytes.now (line_of line ∷ w.before) (field_found (line_of line) f w.before e)
+
+  pub form_read : Looked text lines → {line : TextLine} {next : Lines} (r : Option scan_field.Field) → IsFirstLine lines line next → ReadsField (line_of line) r → is_some r ≡ true → true ≡ in_field_form text
+  form_read w None first e t = absurd (false≢true t)
+  form_read w (Some f) first e t = sym (form_found w first e)
+
+  pub none_taken : {s : Fields} {d : Diagnostics} → s ≡ no_fields → lines_left lines [] ≡ lines_of text → Taken text lines s d d
+  unfolding fields_after lines_diagnosed
+  none_taken e g = record { before = []; left = g; set = e; same = refl; list = refl; count = refl }
+
+  module _ {s : Fields} {old now : Diagnostics} (w : Taken text lines s old now) where
+    pub more_taken : {t : Fields} {new : Diagnostics} {line : TextLine} {next : Lines} → IsFirstLine lines line next → t ≡ line_next (line_of line) s
+        → new.list.ghost_name ≡ now.list.ghost_name
+        → new.list.now ≡ list_after_all now.list.now now.count (line_diagnosed (line_of line))
+        → new.count ≡ count_after_all now.count (line_diagnosed (line_of line))
+        → Taken text next t old new
+    unfolding fields_after lines_diagnosed
+    more_taken {line = line} first set same list count = record {
+      before = line_of line ∷ w.before;
+      left = sym (first.left w.before) ∙ w.left;
+      set = set ∙ ap (line_next (line_of line)) w.set;
+      same = same ∙ w.same;
+      list = list ∙ (λ i. list_after_all (w.list i) (w.count i) (line_diagnosed (line_of line))) ∙ sym (list-append old.list.now old.count (line_diagnosed (line_of line)) (lines_diagnosed w.before));
+      count = count ∙ ap (λ n. count_after_all n (line_diagnosed (line_of line))) w.count ∙ sym (count-append old.count (line_diagnosed (line_of line)) (lines_diagnosed w.before));
+    }
+
+    module _ (none : (before : List Line) → lines_left lines before ≡ before) where
+      all_read : w.before ≡ lines_of text
+      all_read = sym (none w.before) ∙ w.left
+
+      pub all_set : s ≡ fields_after (lines_of text)
+      all_set = w.set ∙ ap fields_after all_read
+
+      pub all_listed : now.list.now ≡ list_after_all old.list.now old.count (lines_diagnosed (lines_of text))
+      all_listed = w.list ∙ ap (λ ls. list_after_all old.list.now old.count (lines_diagnosed ls)) all_read
+
+      pub all_counted : now.count ≡ count_after_all old.count (lines_diagnosed (lines_of text))
+      all_counted = w.count ∙ ap (λ ls. count_after_all old.count (lines_diagnosed ls)) all_read
+
+pub ruleset line_laws = (form_read, none_taken, more_taken, all_set, all_listed, all_counted)

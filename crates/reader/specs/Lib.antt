@@ -1,0 +1,4 @@
+pub mod Parts
+pub mod Reader
+pub mod Answer
+pub mod Fields

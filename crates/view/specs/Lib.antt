@@ -1,0 +1,10 @@
+pub mod Accidentals
+pub mod Refusals
+pub mod View
+pub mod Steps
+pub mod Ready
+pub mod Holds
+pub mod Readable
+pub mod Run
+pub mod End
+pub mod Frame
