@@ -1,0 +1,16 @@
+pub mod FieldLaws
+pub mod PartLaws
+pub mod PutLaws
+pub mod WordLaws
+pub mod SuchLaws
+pub mod HeadLaws
+pub mod RecordLaws
+pub mod RoundTrip
+pub mod Lines
+pub mod TakenLaws
+pub mod NoteTaken
+pub mod CardTaken
+pub mod NumberLaws
+pub mod JudgeLaws
+pub mod ValueLaws
+pub mod BitLaws

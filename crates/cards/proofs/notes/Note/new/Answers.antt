@@ -1,0 +1,151 @@
+use Rattle.std.proofs.Common.{arith, ◌≡◌, ap, sym, ◌∙◌, rules, w32}
+use mathlib.Core.Bool.{false≢true}
+use mir.Val.{SFits}
+use borrow.Author.Tests.{le-leb}
+use Rattle.std.proofs.lemmas.Int.{to_z-of_z}
+use Rattle.std.proofs.lemmas.Result.{MatchResult-from_err}
+use Rattle.stores.specs.Notes.{kind_number}
+use Rattle.tokens.specs.Steps.{duration_number}
+use Rattle.cards.specs.Judged.{natural}
+use Rattle.cards.specs.Card as card
+use Rattle.cards.specs.Card.{such_note}
+use Rattle.cards.specs.Values.{card_pitches, numbered}
+use Rattle.cards.proofs.ValueLaws.{length_pitches}
+use Rattle.cards.proofs.NumberLaws.{kinds, durations, unnumbered, kind_most, duration_most}
+use Rattle.cards.proofs.JudgeLaws.{note_not, note_such, marks_small}
+use Rattle.cards.proofs.notes.Note.new.Goals as goal
+
+pub returns-then-numbers-lt1 : goal.returns-then-numbers-lt1
+returns-then-numbers-lt1 g c = note_not g.W.PlaceWidth.form _ (λ f. omega (arith, f.low))
+
+pub returns-then-greatest-numbers : goal.returns-then-greatest-numbers
+returns-then-greatest-numbers g c = note_not g.W.PlaceWidth.form _ (λ f. omega (arith, f.high, c.greatest.ensures))
+
+pub returns-in_err-kind : goal.returns-in_err-kind
+returns-in_err-kind g c =
+    let fits : SFits w32 c.args.numbers.kind = search rules in
+    let none = simp to_z-of_z at c.in_err-kind.ensures in
+    MatchResult-from_err _ _ _ c.from_residual.ensures.0 (λ _. note_not g.W.PlaceWidth.form _ (λ f. unnumbered kind_number c.args.numbers.kind none.1 (omega (arith, f.kind)) (kinds (natural c.args.numbers.kind) f.kind)))
+
+pub returns-in_err-duration : goal.returns-in_err-duration
+returns-in_err-duration g c =
+    let fits : SFits w32 c.args.numbers.duration = search rules in
+    let none = simp to_z-of_z at c.in_err-duration.ensures in
+    MatchResult-from_err _ _ _ c.from_residual-in_err-duration.ensures.0 (λ _. note_not g.W.PlaceWidth.form _ (λ f. unnumbered duration_number c.args.numbers.duration none.1 (omega (arith, f.duration)) (durations (natural c.args.numbers.duration) f.duration)))
+
+pub returns-in_err-dots : goal.returns-in_err-dots
+returns-in_err-dots g c =
+    let fits : SFits w32 c.args.numbers.dots = search rules in
+    let e = simp to_z-of_z at c.in_err-dots.ensures in
+    MatchResult-from_err _ _ _ c.from_residual-in_err-dots.ensures.0 (λ _. note_not g.W.PlaceWidth.form _ (λ f. false≢true (sym e ∙ le-leb (natural c.args.numbers.dots) 3 f.dots)))
+
+pub returns-in_err-ties : goal.returns-in_err-ties
+returns-in_err-ties g c =
+    let fits : SFits w32 c.args.numbers.ties = search rules in
+    let e = simp to_z-of_z at c.in_err-ties.ensures in
+    MatchResult-from_err _ _ _ c.from_residual-in_err-ties.ensures.0 (λ _. note_not g.W.PlaceWidth.form _ (λ f. false≢true (sym e ∙ le-leb (natural c.args.numbers.ties) 3 f.ties)))
+
+pub returns-in_err-beam : goal.returns-in_err-beam
+returns-in_err-beam g c =
+    let fits : SFits w32 c.args.numbers.beam = search rules in
+    let e = simp to_z-of_z at c.in_err-beam.ensures in
+    MatchResult-from_err _ _ _ c.from_residual-in_err-beam.ensures.0 (λ _. note_not g.W.PlaceWidth.form _ (λ f. false≢true (sym e ∙ le-leb (natural c.args.numbers.beam) 3 f.beam)))
+
+pub returns-in_err-actual : goal.returns-in_err-actual
+returns-in_err-actual g c =
+    let fits : SFits w32 c.args.numbers.actual = search rules in
+    let e = simp to_z-of_z at c.in_err-actual.ensures in
+    MatchResult-from_err _ _ _ c.from_residual-in_err-actual.ensures.0 (λ _. note_not g.W.PlaceWidth.form _ (λ f. false≢true (sym e ∙ le-leb (natural c.args.numbers.actual) 255 f.actual)))
+
+pub returns-in_err-mark_count : goal.returns-in_err-mark_count
+returns-in_err-mark_count g c =
+    let fits : SFits w32 c.args.numbers.mark_count = search rules in
+    let e = simp to_z-of_z at c.in_err-mark_count.ensures in
+    MatchResult-from_err _ _ _ c.from_residual-in_err-mark_count.ensures.0 (λ _. note_not g.W.PlaceWidth.form _ (λ f. false≢true (sym e ∙ le-leb (natural c.args.numbers.mark_count) 8 f.mark_count)))
+
+pub returns-in_err-marks : goal.returns-in_err-marks
+returns-in_err-marks g c =
+    let fits : SFits w32 c.args.numbers.marks = search rules in
+    let e = simp to_z-of_z at c.in_err-marks.ensures in
+    MatchResult-from_err _ _ _ c.from_residual-in_err-marks.ensures.0 (λ _. note_not g.W.PlaceWidth.form _ (λ f. false≢true (sym e ∙ le-leb (natural c.args.numbers.marks) 255 (marks_small (natural c.args.numbers.mark_count) (natural c.args.numbers.marks) f.mark_count f.marks))))
+
+pub returns-then-not-is_tuplet : goal.returns-then-not-is_tuplet
+returns-then-not-is_tuplet g c =
+    let fits : SFits w32 c.args.numbers.actual = search rules in
+    let is = ap natural (simp to_z-of_z at c.in_ok-actual.ensures).0 in
+    note_not g.W.PlaceWidth.form _ (λ f. false≢true (sym c.if-not-is_tuplet.true ∙ c.is_tuplet.ensures ∙ rw is f.tuplet))
+
+pub returns-then-not-are_marks : goal.returns-then-not-are_marks
+returns-then-not-are_marks g c =
+    let fits : SFits w32 c.args.numbers.mark_count = search rules in
+    let fits₁ : SFits w32 c.args.numbers.marks = search rules in
+    let is = ap natural (simp to_z-of_z at c.in_ok-mark_count.ensures).0 in
+    let is₁ = ap natural (simp to_z-of_z at c.in_ok-marks.ensures).0 in
+    note_not g.W.PlaceWidth.form _ (λ f. false≢true (sym c.if-not-are_marks.true ∙ c.are_marks.ensures ∙ rw (is, is₁) f.marks))
+
+pub returns-then-not-are_of : goal.returns-then-not-are_of
+returns-then-not-are_of g c =
+    let fits : SFits w32 c.args.numbers.kind = search rules in
+    let is = ap natural (simp to_z-of_z at c.in_ok-kind.ensures) in
+    note_not g.W.PlaceWidth.form _ (λ f. false≢true (sym c.if-not-are_of.true ∙ c.are_of.ensures ∙ rw is f.rest))
+
+pub returns : goal.returns
+returns g c =
+    let fits : SFits w32 c.args.numbers.kind = search rules in
+    let fits₁ : SFits w32 c.args.numbers.duration = search rules in
+    let fits₂ : SFits w32 c.args.numbers.dots = search rules in
+    let fits₃ : SFits w32 c.args.numbers.ties = search rules in
+    let fits₄ : SFits w32 c.args.numbers.beam = search rules in
+    let fits₅ : SFits w32 c.args.numbers.actual = search rules in
+    let fits₆ : SFits w32 c.args.numbers.mark_count = search rules in
+    let fits₇ : SFits w32 c.args.numbers.marks = search rules in
+    let kind = ap natural (simp to_z-of_z at c.in_ok-kind.ensures) in
+    let duration = ap natural (simp to_z-of_z at c.in_ok-duration.ensures) in
+    let dots = simp to_z-of_z at c.in_ok-dots.ensures in
+    let ties = simp to_z-of_z at c.in_ok-ties.ensures in
+    let beam = simp to_z-of_z at c.in_ok-beam.ensures in
+    let actual = simp to_z-of_z at c.in_ok-actual.ensures in
+    let mark_count = simp to_z-of_z at c.in_ok-mark_count.ensures in
+    let marks = simp to_z-of_z at c.in_ok-marks.ensures in
+    let n : card.Note = record {
+      place = c.args.numbers.place;
+      duration = duration_number c.in_ok-duration.duration;
+      dots = c.in_ok-dots.dots;
+      kind = kind_number c.in_ok-kind.kind;
+      ties = c.in_ok-ties.ties;
+      beam = c.in_ok-beam.beam;
+      actual = c.in_ok-actual.actual;
+      mark_count = c.in_ok-mark_count.mark_count;
+      marks = c.in_ok-marks.marks;
+      pitches = card_pitches c.args.pitches;
+    } in
+    let is : n ≡ numbered c.args.numbers (card_pitches c.args.pitches) = λ i. record {
+      place = c.args.numbers.place;
+      duration = duration i;
+      dots = natural (dots.0 i);
+      kind = kind i;
+      ties = natural (ties.0 i);
+      beam = natural (beam.0 i);
+      actual = natural (actual.0 i);
+      mark_count = natural (mark_count.0 i);
+      marks = natural (marks.0 i);
+      pitches = card_pitches c.args.pitches;
+    } in (
+      is,
+      ap (such_note g.W.PlaceWidth.form) (sym is) ∙ note_such g.W.PlaceWidth.form n (record {
+        low = omega arith;
+        high = omega (arith, c.greatest.ensures);
+        duration = duration_most c.in_ok-duration.duration;
+        dots = dots.1;
+        kind = kind_most c.in_ok-kind.kind;
+        ties = ties.1;
+        beam = beam.1;
+        actual = actual.1;
+        tuplet = sym c.is_tuplet.ensures ∙ c.if-not-is_tuplet.false;
+        mark_count = mark_count.1;
+        marks = sym c.are_marks.ensures ∙ c.if-not-are_marks.false;
+        pitches = omega (arith, length_pitches c.args.pitches, c.args.pitches.few);
+        rest = sym c.are_of.ensures ∙ c.if-not-are_of.false;
+        all = c.requires;
+      }),
+    )

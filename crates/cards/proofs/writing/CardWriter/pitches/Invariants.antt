@@ -1,0 +1,9 @@
+use Rattle.std.proofs.Common.{map, take}
+use Rattle.cards.specs.Fields.{each}
+use Rattle.cards.specs.Card.{pitch_bytes}
+use Rattle.cards.specs.Values.{card_pitch}
+use Rattle.cards.specs.Writer.{Wrote}
+use Rattle.cards.proofs.writing.CardWriter.pitches.Given as goal
+
+abbrev pub invariant-loop-i : goal.invariant-loop-i
+invariant-loop-i g l = Wrote (each (pitch_bytes g.W.PlaceWidth.form) (map card_pitch (take l.i l.pitches.list))) l.initial.self l.self

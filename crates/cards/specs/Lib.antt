@@ -1,0 +1,14 @@
+pub mod Fields
+pub mod Card
+pub mod Words
+pub mod Answers
+pub mod Pieces
+pub mod Judged
+pub mod Taken
+pub mod Records
+pub mod Values
+pub mod Writer
+pub mod Errors
+pub mod Places
+pub mod WordPitches
+pub mod Written
