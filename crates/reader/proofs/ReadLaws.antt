@@ -41,7 +41,7 @@ use Rattle.view.proofs.End.{ends}
 use Rattle.reader.specs.declared.read.Counts.{Counts}
 use Rattle.scan.specs.declared.lines.Part as scan
 use Rattle.reader.specs.Fields.{data_in}
-use Rattle.reader.specs.Answer.{words, answer, entry_refusal, Counted, Reads, DataRead, ReadsData}
+use Rattle.reader.specs.Answer.{words, lent_words, answer, entry_refusal, Counted, Reads, DataRead, ReadsData}
 use Rattle.reader.proofs.DiagnosticLaws.{count-append, list-append, count-stored, list-words, words-blanks}
 
 -- ---- the checks of the text
@@ -176,7 +176,7 @@ module _ {v : View} (f : IsFresh v) (d : Part) where
     end_refused g = (λ i. stands.fine i or end_refusal (lent_in v) (characters_in d.bytes) (state_after (attributes_in v) (items_of d)))
         ∙ subst (Ends (lent_in v) (characters_in d.bytes) (state_after (attributes_in v) (items_of d)) w) g ended
 
-    data_read : {u : View} {counts : Counts} → after_end (characters_in d.bytes) w ≡ Ok u → Counted counts u → DataRead d v counts u
+    data_read : {u : View} {counts : Counts} → after_end (characters_in d.bytes) w ≡ Ok u → Counted counts u → DataRead (lent_in v) (attributes_in v) d v.diagnostics v.diagnostic_count counts u.notes u.bars u.diagnostics
     data_read {u} g c =
         let t : Ended (lent_in v) (characters_in d.bytes) (state_after (attributes_in v) (items_of d)) w u = subst (Ends (lent_in v) (characters_in d.bytes) (state_after (attributes_in v) (items_of d)) w) g ended in
         let same : Closed w u = at_end_closed (characters_in d.bytes) w u (stored_bar 0 w) refl g in
@@ -191,7 +191,7 @@ module _ {v : View} (f : IsFresh v) (d : Part) where
         }
 
     pub data_reads : (r : Result Counts Stop) (u u' : View) → MatchResult r (λ x. after_end (characters_in d.bytes) w ≡ Ok u) (λ stop. after_end (characters_in d.bytes) w ≡ Err (stop_in stop))
-        → IfOk r (λ counts. Counted counts u') → u'.note_count ≡ u.note_count → u'.bar_count ≡ u.bar_count → u'.diagnostic_count ≡ u.diagnostic_count → ReadsData d v r u
+        → IfOk r (λ counts. Counted counts u') → u'.note_count ≡ u.note_count → u'.bar_count ≡ u.bar_count → u'.diagnostic_count ≡ u.diagnostic_count → ReadsData (lent_in v) (attributes_in v) d v.diagnostics v.diagnostic_count r u.notes u.bars u.diagnostics
     data_reads (Ok counts) u u' m c en eb ed = data_read m (record { notes = c.notes ∙ en; bars = c.bars ∙ eb; diagnostics = c.diagnostics ∙ ed })
     data_reads (Err stop) u u' m c en eb ed = end_refused m
 
@@ -209,60 +209,56 @@ length_diagnosed l n (d ∷ ds) = one (list_after_all l n ds) (count_after_all n
         by_tests true false = refl
         by_tests false t = refl
 
--- the view before the data's first token, of a text that has data
-pub record Fielded (text : List ℕ) (lent : Lent) (p : Part) (v : View) : Type 0 where
+-- what is known before the data's first token, of a text that has data
+pub record Fielded (text : List ℕ) (lent : Lent) (p : Part) (cells : LentRecords) (k : Attributes) (before : List stores.Diagnostic) (stored : ℕ) : Type 0 where
   pub entry : entry_refusal text lent.diagnostics ≡ none
   pub enough : diagnostic_limit ≤ lent.diagnostics
   pub data_value : (fields_of text).data_value ≡ some p
-  pub attributes : attributes_in v ≡ (fields_of text).attributes
-  pub notes : length v.notes ≡ lent.notes
-  pub bars : length v.bars ≡ lent.bars
-  pub figure : length v.figure ≡ lent.figure
-  pub list : v.diagnostics ≡ list_after_all (blanks lent.diagnostics) 0 (fields_diagnosed text)
-  pub count : v.diagnostic_count ≡ count_after_all 0 (fields_diagnosed text)
+  pub attributes : k ≡ (fields_of text).attributes
+  pub records : cells ≡ lent_records lent
+  pub list : before ≡ list_after_all (blanks lent.diagnostics) 0 (fields_diagnosed text)
+  pub count : stored ≡ count_after_all 0 (fields_diagnosed text)
 
-module _ {text : List ℕ} {lent : Lent} {p : Part} {v : View} (f : Fielded text lent p v) where
-  lends : lent_in v ≡ lent_records lent
-  lends =
-      let l : length v.diagnostics ≡ lent.diagnostics = ap length f.list ∙ length_diagnosed (blanks lent.diagnostics) 0 (fields_diagnosed text) ∙ length-replicate lent.diagnostics _ in
-      λ i. lent_records (record { notes = f.notes i; bars = f.bars i; figure = f.figure i; diagnostics = l i })
+-- as many cells stand in the list as were lent
+pub same_records : (lent : Lent) (before : List stores.Diagnostic) (ds : List Diagnostic) → before ≡ list_after_all (blanks lent.diagnostics) 0 ds → lent_records (record lent { diagnostics = length before }) ≡ lent_records lent
+same_records lent before ds e =
+    let l : length before ≡ lent.diagnostics = ap length e ∙ length_diagnosed (blanks lent.diagnostics) 0 ds ∙ length-replicate lent.diagnostics _ in
+    λ i. lent_records (record lent { diagnostics = l i })
 
+module _ {text : List ℕ} {lent : Lent} {p : Part} {cells : LentRecords} {k : Attributes} {before : List stores.Diagnostic} {stored : ℕ} (f : Fielded text lent p cells k before stored) where
   -- what is refused, is refused of the text
-  same_refusal : refusal_of text (lent_records lent) ≡ data_refusal (lent_in v) (attributes_in v) p
-  same_refusal = by_data text (lent_records lent) f.entry f.data_value ∙ (λ i. data_refusal (sym lends i) (sym f.attributes i) (data_is text f.data_value i))
-
-  pub text_refused : {r : Refusal} → data_refusal (lent_in v) (attributes_in v) p ≡ some r → refusal_of text (lent_records lent) ≡ some r
-  text_refused e = same_refusal ∙ e
+  same_refusal : refusal_of text (lent_records lent) ≡ data_refusal cells k p
+  same_refusal = by_data text (lent_records lent) f.entry f.data_value ∙ (λ i. data_refusal (sym f.records i) (sym f.attributes i) (data_is text f.data_value i))
 
   -- what the data diagnoses
   abbrev later : List Diagnostic
-  later = data_diagnosed (attributes_in v) (items_of p)
+  later = data_diagnosed k (items_of p)
 
-  pub text_read : {counts : Counts} {w : View} → DataRead p v counts w → Reads text lent (Ok counts) w.notes w.bars w.diagnostics
-  text_read {counts} {w} t = (same_refusal ∙ t.fine, go (attributes_in v) f.attributes p (data_is text f.data_value) t.notes t.note_count t.bars t.bar_count (t.diagnostics ∙ from_start) (t.diagnostic_count ∙ count_from_start))
+  text_read : {counts : Counts} {ns bs : List ℤ} {l : List stores.Diagnostic} → DataRead cells k p before stored counts ns bs l → Reads text lent (Ok counts) ns bs l
+  text_read {counts} {ns} {bs} {l} t = (same_refusal ∙ t.fine, go k f.attributes p (data_is text f.data_value) t.notes t.note_count t.bars t.bar_count (t.diagnostics ∙ from_start) (t.diagnostic_count ∙ count_from_start))
     where
-      from_start : list_after_all v.diagnostics v.diagnostic_count later ≡ list_after_all (blanks lent.diagnostics) 0 (later ++ fields_diagnosed text)
+      from_start : list_after_all before stored later ≡ list_after_all (blanks lent.diagnostics) 0 (later ++ fields_diagnosed text)
       from_start = (λ i. list_after_all (f.list i) (f.count i) later) ∙ sym (list-append (blanks lent.diagnostics) 0 later (fields_diagnosed text))
 
-      count_from_start : count_after_all v.diagnostic_count later ≡ count_after_all 0 (later ++ fields_diagnosed text)
+      count_from_start : count_after_all stored later ≡ count_after_all 0 (later ++ fields_diagnosed text)
       count_from_start = ap (λ n. count_after_all n later) f.count ∙ sym (count-append 0 later (fields_diagnosed text))
 
       go : (k : Attributes) → k ≡ (fields_of text).attributes → (q : Part) → data_of text ≡ q
-          → w.notes ≡ padded (length w.notes) (note_cells (bars_at_end (state_after k (items_of q))))
+          → ns ≡ padded (length ns) (note_cells (bars_at_end (state_after k (items_of q))))
           → counts.notes ≡ length (notes_of (bars_at_end (state_after k (items_of q))))
-          → w.bars ≡ padded (length w.bars) (bar_cells (bars_at_end (state_after k (items_of q))))
+          → bs ≡ padded (length bs) (bar_cells (bars_at_end (state_after k (items_of q))))
           → counts.bars ≡ length (bars_at_end (state_after k (items_of q)))
-          → w.diagnostics ≡ list_after_all (blanks lent.diagnostics) 0 (data_diagnosed k (items_of q) ++ fields_diagnosed text)
+          → l ≡ list_after_all (blanks lent.diagnostics) 0 (data_diagnosed k (items_of q) ++ fields_diagnosed text)
           → counts.diagnostics ≡ count_after_all 0 (data_diagnosed k (items_of q) ++ fields_diagnosed text)
-          → answer (Ok counts) w.notes w.bars (zeros lent.figure) w.diagnostics ≡ accepted text (record lent { notes = length w.notes; bars = length w.bars })
-      go k e q g n nc b bc l lc =
+          → answer (Ok counts) ns bs (zeros lent.figure) l ≡ accepted text (record lent { notes = length ns; bars = length bs })
+      go k e q g n nc bi bc li lc =
           let ds : ℕ → List Diagnostic = λ z. data_diagnosed (fields_of text).attributes (items_of (data_of text)) ++ fields_diagnosed text in
-          let notes_is : w.notes ≡ padded (length w.notes) (note_cells (bars_at_end (state_after (fields_of text).attributes (items_of (data_of text))))) = n ∙ (λ i. padded (length w.notes) (note_cells (bars_at_end (state_after (e i) (items_of (sym g i)))))) in
-          let bars_is : w.bars ≡ padded (length w.bars) (bar_cells (bars_at_end (state_after (fields_of text).attributes (items_of (data_of text))))) = b ∙ (λ i. padded (length w.bars) (bar_cells (bars_at_end (state_after (e i) (items_of (sym g i)))))) in
+          let notes_is : ns ≡ padded (length ns) (note_cells (bars_at_end (state_after (fields_of text).attributes (items_of (data_of text))))) = n ∙ (λ i. padded (length ns) (note_cells (bars_at_end (state_after (e i) (items_of (sym g i)))))) in
+          let bars_is : bs ≡ padded (length bs) (bar_cells (bars_at_end (state_after (fields_of text).attributes (items_of (data_of text))))) = bi ∙ (λ i. padded (length bs) (bar_cells (bars_at_end (state_after (e i) (items_of (sym g i)))))) in
           let note_count_is : counts.notes ≡ length (notes_of (bars_at_end (state_after (fields_of text).attributes (items_of (data_of text))))) = nc ∙ (λ i. length (notes_of (bars_at_end (state_after (e i) (items_of (sym g i)))))) in
           let bar_count_is : counts.bars ≡ length (bars_at_end (state_after (fields_of text).attributes (items_of (data_of text)))) = bc ∙ (λ i. length (bars_at_end (state_after (e i) (items_of (sym g i))))) in
-          let list_is : words w.diagnostics ≡ padded (diagnostic_size * lent.diagnostics) (diagnostic_cells (ds 0)) =
-          ap words (l ∙ (λ i. list_after_all (blanks lent.diagnostics) 0 (data_diagnosed (e i) (items_of (sym g i)) ++ fields_diagnosed text))) ∙ list-words lent.diagnostics f.enough (ds 0) in
+          let list_is : words l ≡ padded (diagnostic_size * lent.diagnostics) (diagnostic_cells (ds 0)) =
+          ap words (li ∙ (λ i. list_after_all (blanks lent.diagnostics) 0 (data_diagnosed (e i) (items_of (sym g i)) ++ fields_diagnosed text))) ∙ list-words lent.diagnostics f.enough (ds 0) in
           let count_is : counts.diagnostics ≡ length (stored_diagnostics (ds 0)) = lc ∙ (λ i. count_after_all 0 (data_diagnosed (e i) (items_of (sym g i)) ++ fields_diagnosed text)) ∙ count-stored (ds 0) in
           λ i. record {
             number = 0;
@@ -276,9 +272,9 @@ module _ {text : List ℕ} {lent : Lent} {p : Part} {v : View} (f : Fielded text
             diagnostic_cells = list_is i;
           }
 
-  pub text_reads : (r : Result Counts Stop) (w : View) → ReadsData p v r w → Reads text lent r w.notes w.bars w.diagnostics
-  text_reads (Ok counts) w t = text_read t
-  text_reads (Err stop) w t = text_refused t
+  pub text_reads : (r : Result Counts Stop) (ns bs : List ℤ) (l : List stores.Diagnostic) → ReadsData cells k p before stored r ns bs l → Reads text lent r ns bs l
+  text_reads (Ok counts) ns bs l t = text_read t
+  text_reads (Err stop) ns bs l t = same_refusal ∙ t
 
 -- a refusal before the data
 pub reads_early : (text : List ℕ) (lent : Lent) (e : view.Refusal) → refusal_of text (lent_records lent) ≡ some (refusal (refusal_number e) 0) → (r : Result Counts Stop) → IsErr r → IsErrAnd r (HasNoPlace e)
@@ -329,3 +325,11 @@ module _ (text : List ℕ) (lent : Lent) where
   pub agrees_if : (r : Result Counts Stop) (notes bars figure : List ℤ) (diagnostics : List stores.Diagnostic) → answer r notes bars figure diagnostics ≡ reading text lent → IfOk r (λ counts. Agrees text counts.notes notes)
   agrees_if (Ok counts) notes bars figure diagnostics e = read_agrees counts notes bars figure diagnostics e
   agrees_if (Err stop) notes bars figure diagnostics e = tt
+
+-- as much is lent as the cleared stores have
+pub same_lent : (n n' b b' f : List ℤ) (d d' : List stores.Diagnostic) → n' ≡ zeros (length n) → b' ≡ zeros (length b) → d' ≡ blanks (length d) → lent_words n' b' f d' ≡ lent_words n b f d
+same_lent n n' b b' f d d' en eb ed =
+    let ln : length n' ≡ length n = ap length en ∙ length-replicate (length n) _ in
+    let lb : length b' ≡ length b = ap length eb ∙ length-replicate (length b) _ in
+    let ld : length d' ≡ length d = ap length ed ∙ length-replicate (length d) _ in
+    λ i. record { notes = ln i; bars = lb i; figure = length f; diagnostics = ld i }

@@ -5,10 +5,10 @@ use Rattle.rules.specs.Limits.{text_limit, diagnostic_limit}
 use Rattle.rules.specs.Text.{Part}
 use Rattle.rules.specs.Tokens.{items_of}
 use Rattle.rules.specs.Records.{notes_of}
-use Rattle.rules.specs.Rules.{state_after, bars_at_end}
+use Rattle.rules.specs.Rules.{Attributes, state_after, bars_at_end}
 use Rattle.rules.specs.Diagnostics.{data_diagnosed}
 use Rattle.rules.specs.Characters.{is_formed, all_blank}
-use Rattle.rules.specs.Refusals.{first_failing, data_refusal, refusal_of}
+use Rattle.rules.specs.Refusals.{LentRecords, first_failing, data_refusal, refusal_of}
 use Rattle.rules.specs.Words.{zeros, padded, note_cells, bar_cells}
 use Rattle.rules.specs.Reading.{Lent, lent_records, Reading, accepted}
 use Rattle.stores.specs.declared.diagnostic.Diagnostic.{Diagnostic}
@@ -16,7 +16,6 @@ use Rattle.stores.specs.Diagnostics.{six_words, blanks, list_after_all, count_af
 use Rattle.view.specs.declared.refusal.Stop.{Stop}
 use Rattle.view.specs.Refusals.{refusal_number, stop_in}
 use Rattle.view.specs.View.{View}
-use Rattle.view.specs.Run.{attributes_in, lent_in}
 use Rattle.reader.specs.declared.read.Counts.{Counts}
 
 -- the six words of each diagnostic, one after the other
@@ -71,19 +70,20 @@ Reads text lent r notes bars diagnostics = MatchResult r
     (λ counts. (refusal_of text (lent_records lent) ≡ none) × (answer (Ok counts) notes bars (zeros lent.figure) diagnostics ≡ accepted text (record lent { notes = length notes; bars = length bars })))
     (λ stop. refusal_of text (lent_records lent) ≡ some (stop_in stop))
 
--- the data's tokens and its end: nothing is refused, and counts and cells are those of the rules' bars
-pub record DataRead (d : Part) (v : View) (counts : Counts) (w : View) : Type 0 where
-  pub fine : data_refusal (lent_in v) (attributes_in v) d ≡ none
-  pub notes : w.notes ≡ padded (length w.notes) (note_cells (bars_at_end (state_after (attributes_in v) (items_of d))))
-  pub note_count : counts.notes ≡ length (notes_of (bars_at_end (state_after (attributes_in v) (items_of d))))
-  pub bars : w.bars ≡ padded (length w.bars) (bar_cells (bars_at_end (state_after (attributes_in v) (items_of d))))
-  pub bar_count : counts.bars ≡ length (bars_at_end (state_after (attributes_in v) (items_of d)))
-  pub diagnostics : w.diagnostics ≡ list_after_all v.diagnostics v.diagnostic_count (data_diagnosed (attributes_in v) (items_of d))
-  pub diagnostic_count : counts.diagnostics ≡ count_after_all v.diagnostic_count (data_diagnosed (attributes_in v) (items_of d))
+-- of data with these attributes, where so many records are lent and these diagnostics were stored before: nothing is refused, and counts and cells are those of the rules' bars
+pub record DataRead (lent : LentRecords) (k : Attributes) (d : Part) (before : List Diagnostic) (stored : ℕ) (counts : Counts) (note_words bar_words : List ℤ) (list : List Diagnostic) : Type 0 where
+  pub fine : data_refusal lent k d ≡ none
+  pub notes : note_words ≡ padded (length note_words) (note_cells (bars_at_end (state_after k (items_of d))))
+  pub note_count : counts.notes ≡ length (notes_of (bars_at_end (state_after k (items_of d))))
+  pub bars : bar_words ≡ padded (length bar_words) (bar_cells (bars_at_end (state_after k (items_of d))))
+  pub bar_count : counts.bars ≡ length (bars_at_end (state_after k (items_of d)))
+  pub diagnostics : list ≡ list_after_all before stored (data_diagnosed k (items_of d))
+  pub diagnostic_count : counts.diagnostics ≡ count_after_all stored (data_diagnosed k (items_of d))
 
 -- that, or the rules' refusal
-abbrev pub ReadsData : Part → View → Result Counts Stop → View → Type 0
-ReadsData d v r w = MatchResult r (λ counts. DataRead d v counts w) (λ stop. data_refusal (lent_in v) (attributes_in v) d ≡ some (stop_in stop))
+abbrev pub ReadsData : LentRecords → Attributes → Part → List Diagnostic → ℕ → Result Counts Stop → List ℤ → List ℤ → List Diagnostic → Type 0
+ReadsData lent k d before stored r note_words bar_words list =
+    MatchResult r (λ counts. DataRead lent k d before stored counts note_words bar_words list) (λ stop. data_refusal lent k d ≡ some (stop_in stop))
 
 -- no record is stored, and all cells are 0
 pub record IsEmpty (words : List ℤ) (stored : ℕ) : Type 0 where

@@ -11,7 +11,7 @@ use stores::diagnostic::{At, Remark};
 use tokens::attributes::{ClefValue, Key, Meter};
 use tokens::cut::Span;
 
-impl<'s, 'n, 'b, 'l, 'd> Reader<'s, 'n, 'b, 'l, 'd> {
+impl<'s, 't, 'n, 'b, 'l, 'd> Reader<'s, 't, 'n, 'b, 'l, 'd> {
     /// `%`
     pub fn clef(&mut self, span: Span<'d>, value: ClefValue)
         ensures same { SameBuffers self.old self.new }

@@ -15,7 +15,7 @@ use tokens::attributes::Clef;
 use tokens::rhythm::{Barline, Edge};
 use view::refusal::Refusal;
 
-impl<'s, 'n, 'b, 'l, 'd> Reader<'s, 'n, 'b, 'l, 'd> {
+impl<'s, 't, 'n, 'b, 'l, 'd> Reader<'s, 't, 'n, 'b, 'l, 'd> {
     // The open bar; the first one has a clef and a key, treble and 0 where none is set.
     fn finished(&self, right: Edge) -> Bar
         requires { Sound (view_of self.now []) }

@@ -15,7 +15,7 @@ use stores::diagnostic::{At, Remark};
 use tokens::cut::Span;
 use view::refusal::Refusal;
 
-impl<'s, 'n, 'b, 'l, 'd> Reader<'s, 'n, 'b, 'l, 'd> {
+impl<'s, 't, 'n, 'b, 'l, 'd> Reader<'s, 't, 'n, 'b, 'l, 'd> {
     // The second `!`: the notes from the first on are the figure, unless it stands in a later bar.
     fn second_mark(
         &mut self,

@@ -21,7 +21,7 @@ use tokens::cut::Span;
 use tokens::rhythm::normal_of;
 use view::refusal::Refusal;
 
-impl<'s, 'n, 'b, 'l, 'd> Reader<'s, 'n, 'b, 'l, 'd> {
+impl<'s, 't, 'n, 'b, 'l, 'd> Reader<'s, 't, 'n, 'b, 'l, 'd> {
     /// `{` notes a start.
     pub fn beam_open(&mut self)
         requires { Sound (view_of self.old []) }

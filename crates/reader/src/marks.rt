@@ -12,7 +12,7 @@ use stores::diagnostic::{At, Remark};
 use tokens::cut::Span;
 use view::refusal::Refusal;
 
-impl<'s, 'n, 'b, 'l, 'd> Reader<'s, 'n, 'b, 'l, 'd> {
+impl<'s, 't, 'n, 'b, 'l, 'd> Reader<'s, 't, 'n, 'b, 'l, 'd> {
     /// `+` starts the tie of a last note, which ends at the next opened note.
     pub fn tie(&mut self, span: Span<'d>)
         ensures same { SameBuffers self.old self.new }

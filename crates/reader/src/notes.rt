@@ -60,7 +60,7 @@ impl Voice {
     }
 }
 
-impl<'s, 'n, 'b, 'l, 'd> Reader<'s, 'n, 'b, 'l, 'd> {
+impl<'s, 't, 'n, 'b, 'l, 'd> Reader<'s, 't, 'n, 'b, 'l, 'd> {
     // A letter's pitch: the accidental that waits, else that of the bar, else that of the key.
     fn pitch(&self, place: Place, step: Step) -> Pitch
         ensures { pitch_of result ≡ steps.pitch_of place.0 (step_number step) (view_of self.now []) }

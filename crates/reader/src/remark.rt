@@ -29,7 +29,7 @@ pub fn after_first(span: Span) -> Value
     Value::Part(Offset(start), Offset(start + span.value.len() as u32))
 }
 
-impl<'s, 'n, 'b, 'l, 'd> Reader<'s, 'n, 'b, 'l, 'd> {
+impl<'s, 't, 'n, 'b, 'l, 'd> Reader<'s, 't, 'n, 'b, 'l, 'd> {
     /// A lone `:`.
     pub fn colon(&mut self, span: Span<'d>)
         ensures same { SameBuffers self.old self.new }

@@ -9,7 +9,7 @@ use super::state::Start;
 use super::walk::Reader;
 use stores::note::{KIND, NoteKind};
 
-impl<'s, 'n, 'b, 'l, 'd> Reader<'s, 'n, 'b, 'l, 'd> {
+impl<'s, 't, 'n, 'b, 'l, 'd> Reader<'s, 't, 'n, 'b, 'l, 'd> {
     /// Whether the open bar has a note.
     pub fn has_note(&self) -> bool
         ensures { result ≡ has_note (view_of self.now []) }

@@ -13,7 +13,7 @@ use tokens::cut::Span;
 use tokens::kinds::Grace;
 use tokens::rhythm::{Accidental, Octave, Pattern};
 
-impl<'s, 'n, 'b, 'l, 'd> Reader<'s, 'n, 'b, 'l, 'd> {
+impl<'s, 't, 'n, 'b, 'l, 'd> Reader<'s, 't, 'n, 'b, 'l, 'd> {
     /// A run of `'` or of `,`.
     pub fn octave(&mut self, span: Span<'d>, octave: Option<Octave>)
         ensures same { SameBuffers self.old self.new }

@@ -21,15 +21,15 @@ use view::refusal::{Refusal, Stop};
 
 /// A reading in lent cells: the state, the open bar's accidentals, the records stored so far.
 #[derive(Drop)]
-pub struct Reader<'s, 'n, 'b, 'l, 'd> {
+pub struct Reader<'s, 't, 'n, 'b, 'l, 'd> {
     pub state: State<'d>,
     pub accidentals: Accidentals,
     pub notes: &'s mut Notes<'n>,
     pub bars: &'s mut Bars<'b>,
-    pub diagnostics: &'s mut Diagnostics<'l>,
+    pub diagnostics: &'t mut Diagnostics<'l>,
 }
 
-impl<'s, 'n, 'b, 'l, 'd> Reader<'s, 'n, 'b, 'l, 'd> {
+impl<'s, 't, 'n, 'b, 'l, 'd> Reader<'s, 't, 'n, 'b, 'l, 'd> {
     /// Reads one token, by its kind, in the order of the published code.
     fn step(&mut self, span: Span<'d>, token: Token<'d>, figure: &mut [i32]) -> Result<(), Refusal>
         requires { IsReady (view_of self.old figure.old) }

@@ -7,6 +7,7 @@ use Rattle.std.proofs.lemmas.Bool.{and_parts}
 use Rattle.std.proofs.lemmas.Bool.Decides.{nat_tests}
 use Rattle.rules.specs.Text.{is_digit, every}
 use Rattle.rules.specs.Cut.{is_duration}
+use Rattle.tokens.specs.Whole.{is_rest}
 use Rattle.rules.specs.Values.{duration_of, capped, dots_at, pattern_of}
 
 -- a digit is no dot
@@ -43,3 +44,10 @@ digit_next (x ∷ xs) b bs h e = by (eqb x 46) refl e (digit_next xs b bs (and_p
         let p = and_parts (is_duration x) (every is_duration xs) h in
         let digit : is_digit x ≡ true = sym (ap (λ (u : Bool). is_digit x || u) q ∙ or-false (is_digit x)) ∙ p.0 in
         (ap is_digit (sym (ap (λ (l : List ℕ). get_or l 0 0) e)) ∙ digit, ap (λ (l : List ℕ). every is_duration (drop 1 l)) (sym e) ∙ p.1)
+
+pub rest_after_dots : (xs : List ℕ) → every is_duration xs ≡ true → is_rest (drop (dots_at xs) xs) ≡ true
+rest_after_dots xs h = by (drop (dots_at xs) xs) refl
+  where
+    by : (l : List ℕ) → drop (dots_at xs) xs ≡ l → is_rest l ≡ true
+    by [] e = refl
+    by (b ∷ bs) e = let p = digit_next xs b bs h e in rw (p.0, p.1) refl

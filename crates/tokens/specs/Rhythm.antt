@@ -10,6 +10,7 @@ use Rattle.tokens.specs.declared.rhythm.Accidental.TheVariants as a
 use Rattle.tokens.specs.declared.rhythm.Barline.{Barline}
 use Rattle.tokens.specs.declared.rhythm.Length.{Length}
 use Rattle.tokens.specs.declared.rhythm.Pattern.{Pattern}
+use Rattle.tokens.specs.declared.rhythm.Rest.{Rest}
 use Rattle.tokens.specs.declared.rhythm.Cycle.{Cycle}
 use Rattle.tokens.specs.Steps.{duration_number, edge_number}
 
@@ -44,13 +45,12 @@ rest_of p = pattern_of p.rest.now
 abbrev pub lengths_of : Pattern → List rules.Length
 lengths_of p = first_of p ∷ rest_of p
 
--- the lengths of what is left of a pattern, if anything is
-abbrev pub lengths_in : Option Pattern → List rules.Length
-lengths_in (Some p) = lengths_of p
-lengths_in None = []
+-- the lengths of what is left of a digit token
+abbrev pub lengths_in : Rest → List rules.Length
+lengths_in r = pattern_of r.bytes.now
 
 -- kept lengths, and those that stand behind them in the text
-abbrev pub lengths_with : List Length → Option Pattern → List rules.Length
+abbrev pub lengths_with : List Length → Rest → List rules.Length
 lengths_with kept rest = map length_in kept ++ lengths_in rest
 
 -- those that are left, or all anew

@@ -3,6 +3,7 @@ ghost use Rattle.std.specs.Prelude.{◌≡◌, ◌+◌, ◌<◌, ◌≤◌, ◌�
 ghost use Rattle.rules.specs.Text.{is_digit, is_note_letter, every};
 ghost use Rattle.rules.specs.Cut.{is_duration};
 ghost use Rattle.rules.specs.Tokens.{slashes, colons};
+ghost use Rattle.tokens.specs.Whole.{is_rest};
 ghost use Rattle.rules.specs.Values.{step_of, duration_of, raised_octave, lowered_octave};
 ghost use Rattle.rules.specs.Values.{sharpened, flattened, normal_of, quarter};
 
@@ -381,7 +382,7 @@ pub struct Pattern<'d> {
 }
 
 impl<'d> Pattern<'d> {
-    ghost use Rattle.tokens.specs.Rhythm.{lengths_of, length_in, first_of, rest_of};
+    ghost use Rattle.tokens.specs.Rhythm.{lengths_of, length_in, lengths_in, first_of, rest_of};
     ghost use Rattle.rules.specs.Values.{pattern_of};
 
     /// Before any digit token: a quarter.
@@ -417,13 +418,42 @@ impl<'d> Pattern<'d> {
         }
     }
 
+    // What stands behind its first length.
+    fn behind(self) -> Rest<'d>
+        ensures { lengths_in result ≡ rest_of self.entry }
+    {
+        let dots = Class::Is(b'.').run(self.rest);
+        Rest {
+            bytes: &self.rest[dots..],
+        }
+    }
+
     /// The lengths behind the first one, if there are any.
     pub fn tail(self) -> Option<Pattern<'d>>
         ensures { MatchOption result (rest_of self.entry ≡ [])
             (λ p. lengths_of p ≡ rest_of self.entry) }
     {
-        let dots = Class::Is(b'.').run(self.rest);
-        let Some((digit, rest)) = self.rest[dots..].split_first() else {
+        self.behind().pattern()
+    }
+}
+
+/// What stands behind a length of a digit token, from the next digit on, or nothing.
+#[derive(Clone, Copy)]
+struct Rest<'d> {
+    bytes: &'d [u8],
+    ghost whole: { IsTrue (is_rest bytes.now) },
+}
+
+impl<'d> Rest<'d> {
+    ghost use Rattle.tokens.specs.Rhythm.{lengths_of, lengths_in};
+
+    // Its lengths, if there are any.
+    #[tactic(auto, using(crate::proofs::PatternLaws::pattern_nil))]
+    fn pattern(self) -> Option<Pattern<'d>>
+        ensures { MatchOption result (lengths_in self.entry ≡ [])
+            (λ p. lengths_of p ≡ lengths_in self.entry) }
+    {
+        let Some((digit, rest)) = self.bytes.split_first() else {
             return None;
         };
         Some(Pattern::of_token(*digit, rest))
@@ -437,7 +467,7 @@ const KEPT: usize = 256;
 #[derive(Clone, Copy)]
 struct Kept<'d> {
     count: usize,
-    rest: Option<Pattern<'d>>,
+    rest: Rest<'d>,
     ghost some: { 0 < count },
     ghost within: { count ≤ 256 },
 }
@@ -447,17 +477,18 @@ impl<'d> Kept<'d> {
 
     /// Keeps the first lengths of a pattern.
     fn of(pattern: Pattern<'d>, lengths: &mut [Length; KEPT]) -> Kept<'d>
-        ensures { lengths_with (take result.count lengths.new) result.rest ≡ lengths_of pattern.entry }
+        ensures { lengths_with (take result.count lengths.new) result.rest
+            ≡ lengths_of pattern.entry }
     {
         lengths[0] = pattern.length();
-        let mut rest = pattern.tail();
+        let mut rest = pattern.behind();
         let mut count = 1;
         while count < KEPT {
-            let Some(next) = rest else {
-                return Kept { count, rest: None };
+            let Some(next) = rest.pattern() else {
+                break;
             };
             lengths[count] = next.length();
-            rest = next.tail();
+            rest = next.behind();
             count += 1;
         }
         Kept { count, rest }
@@ -470,11 +501,12 @@ pub struct Cycle<'d> {
     lengths: [Length; KEPT],
     kept: Kept<'d>,
     index: usize,
-    next: Option<Pattern<'d>>,
+    next: Rest<'d>,
 }
 
 impl<'d> Cycle<'d> {
-    ghost use Rattle.tokens.specs.Rhythm.{lengths_of, length_in, next_length, all_lengths, lengths_left, lengths_after};
+    ghost use Rattle.tokens.specs.Rhythm.{lengths_of, length_in, next_length};
+    ghost use Rattle.tokens.specs.Rhythm.{all_lengths, lengths_left, lengths_after};
 
     /// From a pattern's first length on.
     #[tactic(auto, using(crate::proofs::CycleLaws::anew_all))]
@@ -511,7 +543,7 @@ impl<'d> Cycle<'d> {
         if self.index < self.kept.count {
             return self.lengths[self.index];
         }
-        match self.next {
+        match self.next.pattern() {
             Some(next) => next.length(),
             None => self.lengths[0],
         }
@@ -521,15 +553,16 @@ impl<'d> Cycle<'d> {
     pub fn take(&mut self) -> Length
         ensures taken { length_in result ≡ next_length (lengths_left self.old) }
         ensures all { all_lengths self.new ≡ all_lengths self.old }
-        ensures left { lengths_left self.new ≡ lengths_after (all_lengths self.old) (lengths_left self.old) }
+        ensures left { lengths_left self.new
+            ≡ lengths_after (all_lengths self.old) (lengths_left self.old) }
     {
         let length = self.peek();
         if self.index < self.kept.count {
             self.index += 1;
             return length;
         }
-        match self.next {
-            Some(next) => self.next = next.tail(),
+        match self.next.pattern() {
+            Some(next) => self.next = next.behind(),
             None => {
                 self.index = 1;
                 self.next = self.kept.rest;
