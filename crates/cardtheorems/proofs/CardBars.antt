@@ -17,12 +17,12 @@ use Rattle.rules.specs.Words.{cells, in_bar, numbered}
 use Rattle.rules.specs.Words as rules
 use Rattle.rules.specs.Agreement.{All}
 use Rattle.theorems.proofs.Capacity.{Fits}
-use Rattle.card.specs.Fields.{each}
-use Rattle.card.specs.Card.{form1, head_tests, such_head, such_note, bar_tests, such_bar, note_count}
-use Rattle.card.specs.Card as card
-use Rattle.card.specs.Words.{note_words, head_words, bar_words, bar_cells, note_cells}
-use Rattle.card.specs.Judged.{raised}
-use Rattle.card.proofs.SuchLaws.{raised-back}
+use Rattle.cards.specs.Fields.{each}
+use Rattle.cards.specs.Card.{form1, head_tests, such_head, such_note, bar_tests, such_bar, note_count}
+use Rattle.cards.specs.Card as card
+use Rattle.cards.specs.Words.{note_words, head_words, bar_words, bar_cells, note_cells}
+use Rattle.cards.specs.Judged.{raised}
+use Rattle.cards.proofs.SuchLaws.{raised-back}
 use Rattle.cardtheorems.proofs.Ranges.{IfSome, else-in, FifthsIn, ClefIn, MeterIn, NoteIn, BarIn}
 use Rattle.cardtheorems.proofs.Turned.{turned, length-turned, hold, ◌also◌, no_more, every-turned, cells-turned, cells-append, all-parts, all_both}
 use Rattle.cardtheorems.proofs.CardNotes.{card_note, note-such, note-words}

@@ -15,12 +15,12 @@ use Rattle.rules.specs.Agreement.{All}
 use Rattle.theorems.proofs.Lists.{cond_ind}
 use Rattle.theorems.proofs.Capacity.{Fits}
 use Rattle.theorems.proofs.Cells.{pitches-whole}
-use Rattle.card.specs.Fields.{between, each}
-use Rattle.card.specs.Card.{form1, pitch_tests, such_pitch, note_tests, such_note}
-use Rattle.card.specs.Card as card
-use Rattle.card.specs.Words.{pitch_words, pitch_cells, note_words}
-use Rattle.card.specs.Judged.{raised}
-use Rattle.card.proofs.SuchLaws.{raised-back, length-pitches}
+use Rattle.cards.specs.Fields.{between, each}
+use Rattle.cards.specs.Card.{form1, pitch_tests, such_pitch, note_tests, such_note}
+use Rattle.cards.specs.Card as card
+use Rattle.cards.specs.Words.{pitch_words, pitch_cells, note_words}
+use Rattle.cards.specs.Judged.{raised}
+use Rattle.cards.proofs.SuchLaws.{raised-back, length-pitches}
 use Rattle.cardtheorems.proofs.Ranges.{PitchIn, NoteIn}
 use Rattle.cardtheorems.proofs.Turned.{turned, length-turned, hold, ◌also◌, no_more, every-turned, cells-turned}
 

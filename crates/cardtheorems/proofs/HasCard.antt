@@ -16,14 +16,14 @@ use Rattle.rules.specs.Reading.{attributes_of, tokens_of, bars_of, records_of, r
 use Rattle.rules.specs.Agreement.{All}
 use Rattle.theorems.proofs.Accepted.{accepted-is}
 use Rattle.theorems.proofs.Capacity.{notes-fit}
-use Rattle.card.specs.Fields.{every}
-use Rattle.card.specs.Card.{form1, such_bar, note_count, card_tests, such}
-use Rattle.card.specs.Card as card
-use Rattle.card.specs.Words.{note_cells, bar_cells}
-use Rattle.card.specs.Records.{such_cells}
-use Rattle.card.specs.Answers.{Holds, Write, write_of, Written}
-use Rattle.card.proofs.RoundTrip.{written_of}
-use Rattle.card.proofs.RecordLaws.{length-note-cells, length-bar-cells, cells-such}
+use Rattle.cards.specs.Fields.{every}
+use Rattle.cards.specs.Card.{form1, such_bar, note_count, card_tests, such}
+use Rattle.cards.specs.Card as card
+use Rattle.cards.specs.Words.{note_cells, bar_cells}
+use Rattle.cards.specs.Records.{such_cells}
+use Rattle.cards.specs.Answers.{Holds, Write, write_of, Written}
+use Rattle.cards.proofs.RoundTrip.{written_of}
+use Rattle.cards.proofs.RecordLaws.{length-note-cells, length-bar-cells, cells-such}
 use Rattle.cardtheorems.proofs.Fields.{attributes-in, data-short}
 use Rattle.cardtheorems.proofs.Tokens.{items-in}
 use Rattle.cardtheorems.proofs.States.{bars-in}

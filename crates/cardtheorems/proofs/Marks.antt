@@ -14,7 +14,7 @@ use Rattle.rules.specs.Records.{Notations, Note}
 use Rattle.rules.specs.Rules.{Start, ends_in_note, is_non_grace, non_grace_in, count_from, notes_from, with_tie_start, with_beam, with_mark, Closing, nothing, fermata, tuplet, too_few, tuplet_of, closing, closed, closing_of, beam_closed, marked, notations_next, with_notations, Group, State}
 use Rattle.rules.specs.Agreement.{All}
 use Rattle.theorems.proofs.Lists.{cond_ind, given-ind}
-use Rattle.card.specs.Fields.{between}
+use Rattle.cards.specs.Fields.{between}
 use Rattle.cardtheorems.proofs.Ranges.{IfSome, else-in, given-in, CountIn, NotationsIn, NoteIn}
 
 -- the count of an open group

@@ -12,9 +12,9 @@ use Rattle.rules.specs.Tokens.{Marking, beam_open, beam_close, group_open, group
 use Rattle.rules.specs.Records.{◌or◌, given, is_rest_kind, Pitch, Notations, Note, Bar}
 use Rattle.rules.specs.Rules.{Attributes}
 use Rattle.rules.specs.Agreement.{All}
-use Rattle.card.specs.Fields.{between}
-use Rattle.card.specs.Words.{normal_word}
-use Rattle.card.specs.Judged.{raised}
+use Rattle.cards.specs.Fields.{between}
+use Rattle.cards.specs.Words.{normal_word}
+use Rattle.cards.specs.Judged.{raised}
 
 -- ---- optional values
 

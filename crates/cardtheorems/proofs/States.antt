@@ -15,7 +15,7 @@ use Rattle.rules.specs.Tokens.{Figure, figure_mark, figure_repeat, bar_repeat, M
 use Rattle.rules.specs.Records.{◌or◌, is_some, is_empty, is_rest_kind, Pitch, Note, Bar}
 use Rattle.rules.specs.Rules.{fresh, in_its_bar, count_from, attribute_next, clef_given, fifths_given, meter_given, left_next, finished, close, alter_of, pitch_of, accidentals_next, ends_in_note, joins, opens, kind_of, length_of, next_value, copied, repeated_bar, repeated, figure_next, plain, opened_note, rest_note, whole_bar_rest, stores, add_pitch, joined, with_notations, notations_next, counted, group_next, open_bar_next, step, further_bars, inner_barline, state_after, bars_at_end, Accidentals, Group, State, Attributes}
 use Rattle.rules.specs.Agreement.{All}
-use Rattle.text.proofs.BoolLaws.{both}
+use Rattle.std.proofs.lemmas.Bool.{and_parts}
 use Rattle.theorems.proofs.Lists.{cond_ind, cond-case, given-ind, all-imp, all-++, all_map, all_take}
 use Rattle.theorems.proofs.WholeBars.{each_turn}
 use Rattle.cardtheorems.proofs.Ranges.{IfSome, or-in, else-in, given-in, AlterIn, FifthsIn, ClefIn, MeterIn, KeyIn, AttributesIn, PlaceIn, PitchIn, LengthIn, NotationsIn, PitchesIn, NoteIn, BarIn, CountIn, MarkingIn, ItemIn}
@@ -126,7 +126,7 @@ module _ (s : State) (h : StateIn s) where
 
   joined_in : (x : Item) → ItemIn x → All NoteIn (joined x.place x.token s)
   joined_in x i = given-in (λ (n : ℕ). n ≤ 6) (All NoteIn) (letter_in x.token) i.token.letter h.open_bar
-      (λ n l. cond-case (All NoteIn) (joins s) (λ j. added-in (pitch_of s x.place n) s.open_bar (pitch-in x.place n i.place l) (both s.chord_next (ends_in_note s.open_bar) j).1 h.open_bar) h.open_bar)
+      (λ n l. cond-case (All NoteIn) (joins s) (λ j. added-in (pitch_of s x.place n) s.open_bar (pitch-in x.place n i.place l) (and_parts s.chord_next (ends_in_note s.open_bar) j).1 h.open_bar) h.open_bar)
 
   open_in : (x : Item) → ItemIn x → All NoteIn (open_bar_next x.place x.token s)
   open_in x i = cond_ind (All NoteIn) (is_barline x.token) tt

@@ -18,7 +18,7 @@ use Rattle.rules.specs.Cut.{is_duration, token_size}
 use Rattle.rules.specs.Values.{step_of, clef_of, key_of, meter_of, count_of, whole_bars_of, raised_octave, lowered_octave, pattern_of, sharpened, flattened, Clef, Key, Meter, Length}
 use Rattle.rules.specs.Tokens.{Figure, figure_mark, figure_repeat, bar_repeat, Marking, beam_open, beam_close, group_open, group_close, tie, trill, group_count, Other, blank, colon, unknown, whole_bars, clef, key, meter, octave, duration, accidental, letter, chord, rest, barline, grace, grace_group, figure, marking, other, slashes, colons, token_of, Item, item_at, items_after, items_of}
 use Rattle.rules.specs.Agreement.{All}
-use Rattle.text.proofs.BoolLaws.{both}
+use Rattle.std.proofs.lemmas.Bool.{and_parts}
 use Rattle.theorems.proofs.Lists.{cond_ind, cond-case}
 use Rattle.cardtheorems.proofs.Ranges.{IfSome, AlterIn, ClefIn, MeterIn, KeyIn, LengthIn, MarkingIn, TokenIn, ItemIn}
 use Rattle.cardtheorems.proofs.Values.{clef-in, key_in, meter-in, count-in, raised-in, lowered-in, pattern-in, sharpened-in, flattened-in, letter-in}
@@ -128,7 +128,7 @@ run-every p (x ∷ xs) = at (p x) refl (run-every p xs)
 digits_in : (b : ℕ) (xs : List ℕ) → is_digit b ≡ true → every is_duration (b ∷ take (token_size (b ∷ xs) - 1) xs) ≡ true
 unfolding token_size
 digits_in b xs e =
-    let t = both (leb 48 b) (leb b 57) e in
+    let t = and_parts (leb 48 b) (leb b 57) e in
     let l = leb-true 48 b t.0 in
     let m = leb-true b 57 t.1 in
     let n : 1 + run_length is_duration xs - 1 ≡ run_length is_duration xs = omega arith in

@@ -7,9 +7,9 @@ use lib.IntN.{ℤ}
 use lib.ListN.{length, length-append}
 use Rattle.rules.specs.Words.{cells}
 use Rattle.rules.specs.Agreement.{All}
-use Rattle.text.proofs.BoolLaws.{both}
-use Rattle.card.specs.Fields.{each, every, holds}
-use Rattle.card.proofs.PartLaws.{each_append}
+use Rattle.std.proofs.lemmas.Bool.{and_parts}
+use Rattle.cards.specs.Fields.{each, every, holds}
+use Rattle.cards.proofs.PartLaws.{each_append}
 
 -- f of each element, the earliest first
 abbrev pub turned : {A B : Type 0} → (A → B) → List A → List B
@@ -39,7 +39,7 @@ hold ts h = h.held
 every-last : {A : Type 0} (p : A → Bool) (l : List A) (x : A) → every p l ≡ true → p x ≡ true → every p (l ++ x ∷ []) ≡ true
 unfolding every
 every-last p [] x h g = rw g
-every-last p (y ∷ l) x h g = let t = both (p y) (every p l) h in rw t.0 (every-last p l x t.1 g)
+every-last p (y ∷ l) x h g = let t = and_parts (p y) (every p l) h in rw t.0 (every-last p l x t.1 g)
 
 module _ {A B : Type 0} (P : A → Type 0) (f : A → B) where
   pub every-turned : (p : B → Bool) → ((x : A) → P x → p (f x) ≡ true) → (l : List A) → All P l → every p (turned f l) ≡ true

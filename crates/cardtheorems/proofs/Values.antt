@@ -1,5 +1,5 @@
 -- What the values of tokens and fields say is in range. Assumes nothing.
-use Prim.Native.Nat.{ℕ, zero, suc, ◌+◌, ◌-◌, ◌≤◌}
+use Prim.Native.Nat.{ℕ, zero, suc, ◌+◌, ◌-◌, ◌≤◌, ◌<◌}
 use Prim.Native.Char.{code}
 use mathlib.Core.Path.{◌≡◌, refl}
 use mathlib.Core.Bool.{Bool, true, false, not, cond, ◌&&◌, ◌||◌}
@@ -16,9 +16,9 @@ use Rattle.rules.specs.Characters.{character_size}
 use Rattle.rules.specs.Cut.{is_duration}
 use Rattle.rules.specs.Values.{is_mensural, clef_named, clef_of, step_of, sign_after, named, alters_from, no_alters, letters_from, are_sharps, are_flats, all_expected, key_with, key_of, decimal_from, count_of, after_plus, is_power_of_two, plain_meter, slash_at, meter_of, raised_octave, lowered_octave, duration_of, capped, dots_at, pattern_of, sharpened, flattened, Clef}
 use Rattle.rules.specs.Agreement.{All}
-use Rattle.text.proofs.BoolLaws.{both}
-use Rattle.values.proofs.Below.{below}
-use Rattle.values.proofs.attributes.KeyLaws.{letter-bounds, letter-step, sharps-few, flats-few}
+use Rattle.std.proofs.lemmas.Bool.{and_parts}
+use Rattle.tokens.proofs.Below.{below}
+use Rattle.tokens.proofs.KeyLaws.{sharps_few, flats_few}
 use Rattle.theorems.proofs.Lists.{cond_ind, cond-case}
 use Rattle.cardtheorems.proofs.Ranges.{IfSome, AlterIn, FifthsIn, ClefIn, MeterIn, KeyIn, LengthIn, CountIn}
 
@@ -71,8 +71,8 @@ pub key_in : (xs : List ℕ) → KeyIn (key_of xs)
 unfolding key_of
 key_in xs =
     cond_ind KeyIn (eqb n 0) (with (pos 0) (all_expected none xs) refl)
-    (cond-case KeyIn (are_sharps xs) (λ e. with (pos n) (all_expected none xs) (sharps-in n (sharps-few xs e)))
-    (cond-case KeyIn (are_flats xs) (λ e. with (neg_ℤ (pos n)) (all_expected none xs) (flats-in n (flats-few xs e)))
+    (cond-case KeyIn (are_sharps xs) (λ e. with (pos n) (all_expected none xs) (sharps-in n (sharps_few xs e)))
+    (cond-case KeyIn (are_flats xs) (λ e. with (neg_ℤ (pos n)) (all_expected none xs) (flats-in n (flats_few xs e)))
     (with (pos 0) false refl)))
   where
     n : ℕ
@@ -86,12 +86,12 @@ key_in xs =
 pub count-in : (ds : List ℕ) → IfSome CountIn (count_of ds)
 unfolding count_of
 count-in ds = cond-case (IfSome CountIn) (ltb 0 (length ds) && every is_digit ds && leb (decimal_from 0 ds) count_limit)
-    (λ e. leb-true (decimal_from 0 ds) count_limit (both (ltb 0 (length ds) && every is_digit ds) (leb (decimal_from 0 ds) count_limit) e).1) tt
+    (λ e. leb-true (decimal_from 0 ds) count_limit (and_parts (ltb 0 (length ds) && every is_digit ds) (leb (decimal_from 0 ds) count_limit) e).1) tt
 
 plain_in : (n d : Option ℕ) → IfSome CountIn n → IfSome MeterIn (plain_meter n d)
 plain_in none d h = tt
 plain_in (some n) none h = tt
-plain_in (some n) (some d) h = cond-case (IfSome MeterIn) (ltb 0 n && is_power_of_two d) (λ e. let t = both (ltb 0 n) (is_power_of_two d) e in record { least = ltb-true 0 n t.0; most = h; power = t.1; symbol = omega arith }) tt
+plain_in (some n) (some d) h = cond-case (IfSome MeterIn) (ltb 0 n && is_power_of_two d) (λ e. let t = and_parts (ltb 0 n) (is_power_of_two d) e in record { least = ltb-true 0 n t.0; most = h; power = t.1; symbol = omega arith }) tt
 
 pub meter-in : (xs : List ℕ) → IfSome MeterIn (meter_of xs)
 unfolding meter_of
@@ -113,7 +113,7 @@ digit_duration b = not (is_digit b) || leb (duration_of b) 9
 
 duration-in : (b : ℕ) → is_digit b ≡ true → duration_of b ≤ 9
 unfolding digit_duration
-duration-in b e = let l : b ≤ 57 = leb-true b 57 (both (leb 48 b) (leb b 57) e).1 in leb-true _ _ (rw e at (below digit_duration 58 refl b (omega arith)))
+duration-in b e = let l : b ≤ 57 = leb-true b 57 (and_parts (leb 48 b) (leb b 57) e).1 in leb-true _ _ (rw e at (below digit_duration 58 refl b (omega arith)))
 
 capped-in : (n : ℕ) → capped n ≤ dot_limit
 capped-in n = cond-case (λ (k : ℕ). k ≤ dot_limit) (ltb n dot_limit) (λ e. let l = ltb-true n dot_limit e in omega arith) (omega arith)
@@ -121,7 +121,7 @@ capped-in n = cond-case (λ (k : ℕ). k ≤ dot_limit) (ltb n dot_limit) (λ e.
 pub pattern-in : (bs : List ℕ) → every is_duration bs ≡ true → All LengthIn (pattern_of bs)
 unfolding pattern_of
 pattern-in [] e = tt
-pattern-in (b ∷ bs) e = let t = both (is_duration b) (every is_duration bs) e in at (eqb b (code ".")) t.0 (pattern-in bs t.1)
+pattern-in (b ∷ bs) e = let t = and_parts (is_duration b) (every is_duration bs) e in at (eqb b (code ".")) t.0 (pattern-in bs t.1)
   where
     digit : (d : Bool) → d || false ≡ true → d ≡ true
     digit true e = refl
@@ -136,6 +136,17 @@ sharpened-in k = cond_ind AlterIn (eqb k 1) refl refl
 
 pub flattened-in : (k : ℕ) → AlterIn (flattened k)
 flattened-in k = cond_ind AlterIn (eqb k 1) refl refl
+
+-- a letter is one of seven bytes, and has one of the seven steps
+letter-bounds : (b : ℕ) → is_note_letter b ≡ true → (65 ≤ b) × (b ≤ 71)
+letter-bounds b h = let e : (leb 65 b ≡ true) × (leb b 71 ≡ true) = and_parts (leb 65 b) (leb b 71) h in (leb-true 65 b e.0, leb-true b 71 e.1)
+
+letter_step : ℕ → Bool
+letter_step b = not (is_note_letter b) || ltb (step_of b) 7
+
+letter-step : (b : ℕ) → b < 256 → is_note_letter b ≡ true → step_of b < 7
+unfolding letter_step
+letter-step b h e = ltb-true _ _ (rw e at (below letter_step 256 refl b h))
 
 pub letter-in : (b : ℕ) → is_note_letter b ≡ true → step_of b ≤ 6
 letter-in b e = let l = (letter-bounds b e).1 in let s = letter-step b (omega arith) e in omega arith

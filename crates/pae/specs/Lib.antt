@@ -1,3 +1,3 @@
-pub mod List
+pub mod Numbers
 pub mod Promise
 pub mod Version

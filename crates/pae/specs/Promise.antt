@@ -2,9 +2,9 @@
 use Rattle.std.specs.Prelude.{ℕ, ◌≡◌, List, ℤ}
 use Rattle.rules.specs.Reading.{Lent, reading}
 use Rattle.rules.specs.Agreement.{Agrees}
-use Rattle.ending.specs.declared.Reading.{Reading}
-use Rattle.pae.specs.declared.Diagnostic.{Diagnostic}
-use Rattle.pae.specs.List.{words}
+use Rattle.stores.specs.declared.diagnostic.Diagnostic.{Diagnostic}
+use Rattle.reader.specs.Answer.{words}
+use Rattle.pae.specs.declared.answers.Reading.{Reading}
 
 -- of a text and the lent sizes: the result and every lent cell are the rules' `reading`, and the agreement holds of an accepted one
 pub record Promise (text : List ℕ) (lent : Lent) (r : Reading) (notes bars figure : List ℤ) (diagnostics : List Diagnostic) : Type 0 where

@@ -314,13 +314,13 @@ module _ (text : List ℕ) (lent : Lent) where
   read_agrees counts notes bars figure diagnostics e = agrees-of text lent (sym (ap (λ (r : Reading). r.number) e)) (ap (λ (r : Reading). r.notes) e) (ap (λ (r : Reading). r.note_cells) e)
 
   -- of either result, what is not cleared
-  pub answers : (r : Result Counts Stop) (notes bars : List ℤ) (diagnostics : List stores.Diagnostic) → is_err r ≡ false → length notes ≡ lent.notes → length bars ≡ lent.bars → Reads text lent r notes bars diagnostics → answer r notes bars (zeros lent.figure) diagnostics ≡ reading text lent
-  answers (Ok counts) notes bars diagnostics e en eb r = answer_read counts notes bars diagnostics en eb r
-  answers (Err stop) notes bars diagnostics e en eb r = absurd (false≢true (sym e))
+  pub answers : (r : Result Counts Stop) (notes bars figure : List ℤ) (diagnostics : List stores.Diagnostic) → is_err r ≡ false → length notes ≡ lent.notes → length bars ≡ lent.bars → figure ≡ zeros lent.figure → Reads text lent r notes bars diagnostics → answer r notes bars figure diagnostics ≡ reading text lent
+  answers (Ok counts) notes bars figure diagnostics e en eb ef r = ap (λ f. answer (Ok counts) notes bars f diagnostics) ef ∙ answer_read counts notes bars diagnostics en eb r
+  answers (Err stop) notes bars figure diagnostics e en eb ef r = absurd (false≢true (sym e))
 
-  pub answers_cleared : (r : Result Counts Stop) (notes bars : List ℤ) (diagnostics : List stores.Diagnostic) → is_err r ≡ true → Reads text lent r notes bars diagnostics → answer r (zeros lent.notes) (zeros lent.bars) (zeros lent.figure) (blanks lent.diagnostics) ≡ reading text lent
-  answers_cleared (Ok counts) notes bars diagnostics e r = absurd (false≢true e)
-  answers_cleared (Err stop) notes bars diagnostics e r = answer_refused stop lent.notes lent.bars lent.figure lent.diagnostics refl refl refl refl r
+  pub answers_cleared : (r : Result Counts Stop) (n b notes bars figure : List ℤ) (d diagnostics : List stores.Diagnostic) → is_err r ≡ true → n ≡ zeros lent.notes → b ≡ zeros lent.bars → figure ≡ zeros lent.figure → d ≡ blanks lent.diagnostics → Reads text lent r notes bars diagnostics → answer r n b figure d ≡ reading text lent
+  answers_cleared (Ok counts) n b notes bars figure d diagnostics e en eb ef ed r = absurd (false≢true e)
+  answers_cleared (Err stop) n b notes bars figure d diagnostics e en eb ef ed r = (λ i. answer (Err stop) (en i) (eb i) (ef i) (ed i)) ∙ answer_refused stop lent.notes lent.bars lent.figure lent.diagnostics refl refl refl refl r
 
   pub agrees_if : (r : Result Counts Stop) (notes bars figure : List ℤ) (diagnostics : List stores.Diagnostic) → answer r notes bars figure diagnostics ≡ reading text lent → IfOk r (λ counts. Agrees text counts.notes notes)
   agrees_if (Ok counts) notes bars figure diagnostics e = read_agrees counts notes bars figure diagnostics e

@@ -1,4 +1,4 @@
-use Rattle.std.proofs.Common.{rules, arith, refl}
+use Rattle.std.proofs.Common.{rules, arith}
 use Rattle.tokens.specs.Rhythm.{lengths_of}
 use Rattle.tokens.proofs.CycleLaws.{kept_step}
 use Rattle.tokens.proofs.rhythm.Kept.of.Goals as goal

@@ -1,5 +1,5 @@
-use Rattle.std.proofs.Common.{◌≡◌, ℕ, true, drop, ap, sym, ◌∙◌}
-use Rattle.rules.specs.Values.{dots_at, pattern_of}
+use Rattle.std.proofs.Common.{ℕ, drop, ap, sym, ◌∙◌}
+use Rattle.rules.specs.Values.{pattern_of}
 use Rattle.tokens.specs.Whole.{is_rest}
 use Rattle.scan.proofs.Trims.{part_to_end}
 use Rattle.tokens.proofs.PatternLaws.{pattern_dots, rest_after_dots}

@@ -1,0 +1,43 @@
+// What the functions answer, in the form that C has: a number, 0 or a refusal's, and counts.
+ghost use Rattle.std.specs.Prelude.{◌≡◌};
+
+use cards::error::CardError;
+use cards::read::CardCounts;
+use reader::read::Counts;
+use view::refusal::Stop;
+
+/// Of a reading: 0 or the refusal's number; the place in the data, 0 where it has none; how many notes, bars and diagnostics are stored.
+#[repr(C)]
+#[derive(Clone, Copy, Debug, PartialEq, Eq)]
+pub struct Reading {
+    pub number: u32,
+    pub place: u32,
+    pub notes: u32,
+    pub bars: u32,
+    pub diagnostics: u32,
+}
+
+impl From<Result<Counts, Stop>> for Reading {
+    ghost use Rattle.pae.specs.Numbers.{Says};
+
+    ghost from_gives = { Says };
+
+    fn from(result: Result<Counts, Stop>) -> Reading {
+        match result {
+            Ok(counts) => Reading {
+                number: 0,
+                place: 0,
+                notes: counts.notes,
+                bars: counts.bars,
+                diagnostics: counts.diagnostics,
+            },
+            Err(stop) => Reading {
+                number: stop.refusal.number(),
+                place: stop.place.0,
+                notes: 0,
+                bars: 0,
+                diagnostics: 0,
+            },
+        }
+    }
+}
