@@ -1,5 +1,6 @@
 // Copies of note records: into the figure, from the figure, and of a bar.
-ghost use Rattle.std.specs.Prelude.{◌≡◌, ◌+◌, ◌-◌, ◌*◌, ◌≤◌, ◌<◌, ◌++◌, ◌↔◌, length, take, drop, OnOk, OnErr, IsErr};
+ghost use Rattle.std.specs.Prelude.{◌≡◌, ◌+◌, ◌*◌, ◌≤◌, ◌<◌, ◌++◌, ◌↔◌, length, take, drop};
+ghost use Rattle.std.specs.Prelude.{OnOk, OnErr, IsErr};
 ghost use Rattle.stores.specs.Cells.{record_at, with_record, written, word_limit};
 ghost use Rattle.stores.specs.Copies.{copy_of, copies};
 
@@ -37,7 +38,8 @@ fn copy_from(cells: &mut [i32], to: usize, figure: &[i32], from: usize, place: P
     requires room { to * NOTE + NOTE ≤ length cells.old }
     requires place { place.0 < word_limit }
     requires bar { bar < word_limit }
-    ensures { cells.new ≡ with_record NOTE cells.old to (copy_of place.0 bar (record_at NOTE figure.now from)) }
+    ensures { cells.new ≡
+        with_record NOTE cells.old to (copy_of place.0 bar (record_at NOTE figure.now from)) }
 {
     let at = to * NOTE;
     let source = from * NOTE;
@@ -57,6 +59,7 @@ fn copy_figure(cells: &mut [i32], to: usize, figure: &[i32], count: usize, place
     requires bar { bar < word_limit }
     ensures { cells.new ≡ written cells.old (to * NOTE) (copies place.0 bar figure.now count) }
 {
+    // By number: std doesn't say what is in the cells after `chunks_exact_mut`.
     for k in 0..count {
         copy_from(cells, to + k, figure, k, place, bar);
     }
@@ -66,7 +69,8 @@ fn copy_figure(cells: &mut [i32], to: usize, figure: &[i32], count: usize, place
 fn copy_words(cells: &mut [i32], from: usize, to: usize, size: usize)
     requires later { from + size ≤ to }
     requires room { to + size ≤ length cells.old }
-    ensures { cells.new ≡ take to cells.old ++ (take size (drop from cells.old) ++ drop (to + size) cells.old) }
+    ensures { cells.new ≡
+        take to cells.old ++ (take size (drop from cells.old) ++ drop (to + size) cells.old) }
 {
     let (front, back) = cells.split_at_mut(to);
     let source = &front[from..from + size];
@@ -79,7 +83,8 @@ fn copy_within(cells: &mut [i32], from: usize, to: usize, place: Place, bar: u32
     requires room { to * NOTE + NOTE ≤ length cells.old }
     requires place { place.0 < word_limit }
     requires bar { bar < word_limit }
-    ensures { cells.new ≡ with_record NOTE cells.old to (copy_of place.0 bar (record_at NOTE cells.old from)) }
+    ensures { cells.new ≡
+        with_record NOTE cells.old to (copy_of place.0 bar (record_at NOTE cells.old from)) }
 {
     let at = to * NOTE;
     copy_words(cells, from * NOTE, at, NOTE);
@@ -92,8 +97,10 @@ fn copy_bar(cells: &mut [i32], from: usize, to: usize, count: usize, place: Plac
     requires room { to * NOTE + count * NOTE ≤ length cells.old }
     requires place { place.0 < word_limit }
     requires bar { bar < word_limit }
-    ensures { cells.new ≡ written cells.old (to * NOTE) (copies place.0 bar (drop (from * NOTE) cells.old) count) }
+    ensures { cells.new ≡
+        written cells.old (to * NOTE) (copies place.0 bar (drop (from * NOTE) cells.old) count) }
 {
+    // By number: a record and its copy are two places of the same cells.
     for k in 0..count {
         copy_within(cells, from + k, to + k, place, bar);
     }
@@ -104,7 +111,8 @@ impl<'a> Records<'a, NOTE> {
     pub fn take_figure(&self, figure: &mut [i32], from: usize, count: usize)
         requires from { from + count ≤ self.now.count }
         requires room { count * NOTE ≤ length figure.old }
-        ensures { figure.new ≡ written figure.old 0 (take (count * NOTE) (drop (from * NOTE) self.now.cells.now)) }
+        ensures { figure.new ≡
+            written figure.old 0 (take (count * NOTE) (drop (from * NOTE) self.now.cells.now)) }
     {
         let start = from * NOTE;
         let size = count * NOTE;
@@ -123,7 +131,8 @@ impl<'a> Records<'a, NOTE> {
         requires place { place.0 < word_limit }
         requires bar { bar < word_limit }
         ensures same_cells { self.new.cells.ghost_name ≡ self.old.cells.ghost_name }
-        ensures full { IsErr result ↔ (length self.old.cells.now < self.old.count * NOTE + count * NOTE) }
+        ensures full { IsErr result ↔
+            (length self.old.cells.now < self.old.count * NOTE + count * NOTE) }
         ensures err { OnErr result (self.new.cells ≡ self.old.cells) }
         ensures err_count { OnErr result (self.new.count ≡ self.old.count) }
         ensures copied { OnOk result (self.new.cells.now ≡
@@ -151,12 +160,13 @@ impl<'a> Records<'a, NOTE> {
         requires place { place.0 < word_limit }
         requires bar { bar < word_limit }
         ensures same_cells { self.new.cells.ghost_name ≡ self.old.cells.ghost_name }
-        ensures full { IsErr result ↔ (length self.old.cells.now < self.old.count * NOTE + count * NOTE) }
+        ensures full { IsErr result ↔
+            (length self.old.cells.now < self.old.count * NOTE + count * NOTE) }
         ensures err { OnErr result (self.new.cells ≡ self.old.cells) }
         ensures err_count { OnErr result (self.new.count ≡ self.old.count) }
         ensures copied { OnOk result (self.new.cells.now ≡
-            written self.old.cells.now (self.old.count * NOTE) (copies place.0 bar (drop
-            (from * NOTE) self.old.cells.now) count)) }
+            written self.old.cells.now (self.old.count * NOTE)
+            (copies place.0 bar (drop (from * NOTE) self.old.cells.now) count)) }
         ensures counted { OnOk result (self.new.count ≡ self.old.count + count) }
     {
         if self.cells.len() - self.count * NOTE < count * NOTE {

@@ -1,11 +1,15 @@
-// Groups over a part of the notes: beams, tuplets, fermatas. The step is lent the notes from a record on, so those before are untouched.
-ghost use Rattle.std.specs.Prelude.{◌≡◌, ◌+◌, ◌-◌, ◌*◌, ◌≤◌, ◌<◌, ◌↔◌, length, drop, pos, OnOk, OnErr, IsErr};
+// Groups over a part of the notes: beams, tuplets, fermatas. The step is lent the notes from a
+// record on, so those before are untouched.
+ghost use Rattle.std.specs.Prelude.{◌≡◌, ◌+◌, ◌-◌, ◌*◌, ◌≤◌, ◌<◌, ◌↔◌, length, drop, pos};
+ghost use Rattle.std.specs.Prelude.{OnOk, OnErr, IsErr};
 ghost use Rattle.rules.specs.Limits.{mark_capacity};
 ghost use Rattle.rules.specs.Rules.{closing, tuplet_of};
 ghost use Rattle.tokens.specs.Numbers.{number_in};
-ghost use Rattle.stores.specs.Cells.{record_at, changed, on_part, word_limit};
+ghost use Rattle.stores.specs.Cells.{changed, on_part, word_limit};
 ghost use Rattle.stores.specs.Notes.{number_at, mark_limit};
-ghost use Rattle.stores.specs.Groups.{timed_at, timed_count, last_non_grace, beam_number, beamed_words, tupled_words, walked, beamed, tupled, last_timed, fermata_in, closing_of, ThreeAtLeast};
+ghost use Rattle.stores.specs.Groups.{timed_at, timed_count, last_non_grace, last_timed};
+ghost use Rattle.stores.specs.Groups.{beam_number, beamed_words, tupled_words, walked, beamed};
+ghost use Rattle.stores.specs.Groups.{tupled, fermata_in, closing_of, ThreeAtLeast};
 
 use super::cells::{MAX_MARKS, NOTE, NoRoom, Records, natural};
 use super::note::{ACTUAL, BEAM, KIND, MARK_COUNT, MARKS, NORMAL, NoteKind, add_mark};
@@ -146,7 +150,8 @@ fn fermata(part: &mut [i32], count: usize) -> Result<(), NoRoom>
     requires room { count * NOTE ≤ length part.old }
     requires some { 0 < count }
     requires fits { number_at MARKS (last_timed part.old count) < mark_limit }
-    ensures full { IsErr result ↔ (mark_capacity ≤ number_at MARK_COUNT (last_timed part.old count)) }
+    ensures full { IsErr result ↔
+        (mark_capacity ≤ number_at MARK_COUNT (last_timed part.old count)) }
     ensures err { OnErr result (part.new ≡ part.old) }
     ensures marked { OnOk result (part.new ≡ fermata_in part.old count) }
 {
@@ -162,8 +167,10 @@ impl<'a> Records<'a, NOTE> {
     /// The non-grace records from one on.
     pub fn timed_from(&self, from: usize) -> Timed
         requires { from ≤ self.now.count }
-        ensures count { result.count ≡ timed_count (drop (from * NOTE) self.now.cells.now) (self.now.count - from) }
-        ensures last { result.last ≡ last_non_grace (drop (from * NOTE) self.now.cells.now) (self.now.count - from) }
+        ensures count { result.count ≡
+            timed_count (drop (from * NOTE) self.now.cells.now) (self.now.count - from) }
+        ensures last { result.last ≡
+            last_non_grace (drop (from * NOTE) self.now.cells.now) (self.now.count - from) }
     {
         timed_in(&self.cells[from * NOTE..], self.count - from)
     }
@@ -185,8 +192,8 @@ impl<'a> Records<'a, NOTE> {
         requires { from ≤ self.old.count }
         ensures same_cells { self.new.cells.ghost_name ≡ self.old.cells.ghost_name }
         ensures tupled { self.new.cells.now ≡
-            on_part NOTE from (λ part. tupled actual normal part
-            (self.old.count - from)) self.old.cells.now }
+            on_part NOTE from (λ part. tupled actual normal part (self.old.count - from))
+            self.old.cells.now }
         ensures count { self.new.count ≡ self.old.count }
     {
         tuplet(
@@ -207,8 +214,8 @@ impl<'a> Records<'a, NOTE> {
             (last_timed (drop (from * NOTE) self.old.cells.now) (self.old.count - from))) }
         ensures err { OnErr result (self.new.cells.now ≡ self.old.cells.now) }
         ensures marked { OnOk result (self.new.cells.now ≡
-            on_part NOTE from (λ part. fermata_in part
-            (self.old.count - from)) self.old.cells.now) }
+            on_part NOTE from (λ part. fermata_in part (self.old.count - from))
+            self.old.cells.now) }
         ensures count { self.new.count ≡ self.old.count }
     {
         fermata(&mut self.cells[from * NOTE..], self.count - from)

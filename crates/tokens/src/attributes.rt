@@ -1,5 +1,5 @@
 // What the values of clefs, keys and meters say.
-ghost use Rattle.std.specs.Prelude.{◌≡◌, not, ◌&&◌, ◌≤◌, [], ◌∷◌, length, eqb, pos, neg_ℤ};
+ghost use Rattle.std.specs.Prelude.{◌≡◌, not, ◌&&◌, [], ◌∷◌, length, eqb};
 ghost use Rattle.std.proofs.Math.Option.{none};
 ghost use Rattle.rules.specs.Text.{begins, has};
 ghost use Rattle.rules.specs.Values.{clef_named, is_mensural, clef_of, is_power_of_two};
@@ -171,7 +171,8 @@ impl Sign {
     }
 }
 
-/// What a key's value says: an alteration for each step from C, the fifths, and whether it is standard.
+/// What a key's value says: an alteration for each step from C, the fifths, and whether it is
+/// standard.
 #[derive(Clone, Copy, Debug, PartialEq, Eq)]
 pub struct Key {
     pub alters: [i8; 7],
