@@ -5,7 +5,7 @@ ghost use Rattle.std.specs.Prelude.{OnOk, OnErr, IsErr};
 ghost use Rattle.rules.specs.Limits.{mark_capacity};
 ghost use Rattle.rules.specs.Rules.{closing, tuplet_of};
 ghost use Rattle.tokens.specs.Numbers.{number_in};
-ghost use Rattle.stores.specs.Cells.{changed, on_part, word_limit};
+ghost use Rattle.stores.specs.Cells.{on_part, word_limit};
 ghost use Rattle.stores.specs.Notes.{number_at, mark_limit};
 ghost use Rattle.stores.specs.Groups.{timed_at, timed_count, last_non_grace, last_timed};
 ghost use Rattle.stores.specs.Groups.{beam_number, beamed_words, tupled_words, walked, beamed};
@@ -30,11 +30,12 @@ pub enum Closing {
     TooFew(u8),
 }
 
-fn is_timed(part: &[i32], number: usize) -> bool
-    requires { number * NOTE + NOTE ≤ length part.now }
-    ensures { result ≡ timed_at part.now number }
+// Whether a record is non-grace.
+fn is_timed(words: &[i32]) -> bool
+    requires { length words.now ≡ NOTE }
+    ensures { result ≡ timed_at words.now 0 }
 {
-    let kind = natural(part[number * NOTE + KIND]);
+    let kind = natural(words[KIND]);
     kind != NoteKind::Grace as u32 && kind != NoteKind::SlashedGrace as u32
 }
 
@@ -48,7 +49,8 @@ fn timed_in(part: &[i32], count: usize) -> Timed
 {
     let mut timed = Timed { count: 0, last: 0 };
     for k in 0..count {
-        if is_timed(part, k) {
+        let at = k * NOTE;
+        if is_timed(&part[at..at + NOTE]) {
             timed.count += 1;
             timed.last = k;
         }
@@ -78,16 +80,6 @@ fn set_beam(words: &mut [i32], earlier: usize, total: usize)
     words[BEAM] = beam_number(earlier, total);
 }
 
-// A beam at one record.
-fn beam_record(part: &mut [i32], number: usize, earlier: usize, total: usize)
-    requires room { number * NOTE + NOTE ≤ length part.old }
-    requires fits { earlier < word_limit }
-    ensures { part.new ≡ changed NOTE (beamed_words total earlier) part.old number }
-{
-    let at = number * NOTE;
-    set_beam(&mut part[at..at + NOTE], earlier, total);
-}
-
 // One record's words with a tuplet.
 fn set_tuplet(words: &mut [i32], actual: u8, normal: u8)
     requires { length words.old ≡ NOTE }
@@ -95,15 +87,6 @@ fn set_tuplet(words: &mut [i32], actual: u8, normal: u8)
 {
     words[ACTUAL] = i32::from(actual);
     words[NORMAL] = i32::from(normal);
-}
-
-// A tuplet at one record.
-fn tuple_record(part: &mut [i32], number: usize, actual: u8, normal: u8)
-    requires { number * NOTE + NOTE ≤ length part.old }
-    ensures { part.new ≡ changed NOTE (tupled_words actual normal 0) part.old number }
-{
-    let at = number * NOTE;
-    set_tuplet(&mut part[at..at + NOTE], actual, normal);
 }
 
 // The non-grace ones of the part's first `count` records, beamed.
@@ -114,8 +97,9 @@ fn beam_each(part: &mut [i32], count: usize, total: usize)
 {
     let mut earlier = 0;
     for k in 0..count {
-        if is_timed(part, k) {
-            beam_record(part, k, earlier, total);
+        let at = k * NOTE;
+        if is_timed(&part[at..at + NOTE]) {
+            set_beam(&mut part[at..at + NOTE], earlier, total);
             earlier += 1;
         }
     }
@@ -139,8 +123,9 @@ fn tuplet(part: &mut [i32], count: usize, actual: u8, normal: u8)
     ensures { part.new ≡ tupled actual normal part.old count }
 {
     for k in 0..count {
-        if is_timed(part, k) {
-            tuple_record(part, k, actual, normal);
+        let at = k * NOTE;
+        if is_timed(&part[at..at + NOTE]) {
+            set_tuplet(&mut part[at..at + NOTE], actual, normal);
         }
     }
 }
