@@ -15,12 +15,17 @@ use Rattle.stores.specs.Cells.{written, record_at, with_record, changed}
 pub put_written : (a k : ℕ) (l r : List ℤ) → length r ≡ k → put_mid a k l r ≡ written l a r
 put_written a k l r e = rw (e, drop-drop)
 
+-- a record lent comes back as f of a record of other words
+pub put_other : (size n k i j : ℕ) (f : List ℤ → List ℤ) (l s r : List ℤ) → k ≡ size → j ≡ size → n * size + size ≤ length l
+    → r ≡ f (take j (drop (i * size) s)) → length r ≡ length (take k (drop (n * size) l)) → put_mid (n * size) k l r ≡ with_record size l n (f (record_at size s i))
+put_other size n k i j f l s r e d h g m =
+    let len : length r ≡ k = m ∙ length-take-le k (drop (n * size) l) (rw (length-drop, e) (omega arith)) in
+    put_written (n * size) k l r len ∙ rw (g, d)
+
 -- a record lent comes back changed by f
 pub put_record : (size n k : ℕ) (f : List ℤ → List ℤ) (l r : List ℤ) → k ≡ size → n * size + size ≤ length l
     → r ≡ f (take k (drop (n * size) l)) → length r ≡ length (take k (drop (n * size) l)) → put_mid (n * size) k l r ≡ changed size f l n
-put_record size n k f l r e h g m =
-    let len : length r ≡ k = m ∙ length-take-le k (drop (n * size) l) (rw (length-drop, e) (omega arith)) in
-    put_written (n * size) k l r len ∙ rw (g, e)
+put_record size n k f l r e h g m = put_other size n k n k f l l r e e h g m
 
 drop-zeros : (k m : ℕ) → drop k (zeros m) ≡ zeros (m - k)
 drop-zeros zero m = rw sub-zero

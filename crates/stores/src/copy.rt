@@ -32,25 +32,6 @@ fn copy_record(target: &mut [i32], source: &[i32], place: Place, bar: u32)
     renew(target, place, bar);
 }
 
-// A record of the figure, copied.
-fn copy_from(cells: &mut [i32], to: usize, figure: &[i32], from: usize, place: Place, bar: u32)
-    requires figure { from * NOTE + NOTE ≤ length figure.now }
-    requires room { to * NOTE + NOTE ≤ length cells.old }
-    requires place { place.0 < word_limit }
-    requires bar { bar < word_limit }
-    ensures { cells.new ≡
-        with_record NOTE cells.old to (copy_of place.0 bar (record_at NOTE figure.now from)) }
-{
-    let at = to * NOTE;
-    let source = from * NOTE;
-    copy_record(
-        &mut cells[at..at + NOTE],
-        &figure[source..source + NOTE],
-        place,
-        bar,
-    );
-}
-
 // The figure's `count` records, copied to record `to` on.
 fn copy_figure(cells: &mut [i32], to: usize, figure: &[i32], count: usize, place: Place, bar: u32)
     requires figure { count * NOTE ≤ length figure.now }
@@ -61,7 +42,14 @@ fn copy_figure(cells: &mut [i32], to: usize, figure: &[i32], count: usize, place
 {
     // By number: std doesn't say what is in the cells after `chunks_exact_mut`.
     for k in 0..count {
-        copy_from(cells, to + k, figure, k, place, bar);
+        let at = (to + k) * NOTE;
+        let source = k * NOTE;
+        copy_record(
+            &mut cells[at..at + NOTE],
+            &figure[source..source + NOTE],
+            place,
+            bar,
+        );
     }
 }
 
