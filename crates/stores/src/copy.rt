@@ -32,55 +32,28 @@ fn copy_record(target: &mut [i32], source: &[i32], place: Place, bar: u32)
     renew(target, place, bar);
 }
 
-// The figure's `count` records, copied to record `to` on.
-fn copy_figure(cells: &mut [i32], to: usize, figure: &[i32], count: usize, place: Place, bar: u32)
-    requires figure { count * NOTE ≤ length figure.now }
-    requires room { to * NOTE + count * NOTE ≤ length cells.old }
+// The first `count` records, copied into others.
+fn copy_records(target: &mut [i32], source: &[i32], count: usize, place: Place, bar: u32)
+    requires target { count * NOTE ≤ length target.old }
+    requires source { count * NOTE ≤ length source.now }
     requires place { place.0 < word_limit }
     requires bar { bar < word_limit }
-    ensures { cells.new ≡ written cells.old (to * NOTE) (copies place.0 bar figure.now count) }
+    ensures { target.new ≡ written target.old 0 (copies place.0 bar source.now count) }
 {
     // By number: std doesn't say what is in the cells after `chunks_exact_mut`.
     for k in 0..count {
-        let at = (to + k) * NOTE;
-        let source = k * NOTE;
+        let at = k * NOTE;
         copy_record(
-            &mut cells[at..at + NOTE],
-            &figure[source..source + NOTE],
+            &mut target[at..at + NOTE],
+            &source[at..at + NOTE],
             place,
             bar,
         );
     }
 }
 
-// Words copied behind themselves.
-fn copy_words(cells: &mut [i32], from: usize, to: usize, size: usize)
-    requires later { from + size ≤ to }
-    requires room { to + size ≤ length cells.old }
-    ensures { cells.new ≡
-        take to cells.old ++ (take size (drop from cells.old) ++ drop (to + size) cells.old) }
-{
-    let (front, back) = cells.split_at_mut(to);
-    let source = &front[from..from + size];
-    back[..size].copy_from_slice(source);
-}
-
-// One record copied to a later one.
-fn copy_within(cells: &mut [i32], from: usize, to: usize, place: Place, bar: u32)
-    requires later { from < to }
-    requires room { to * NOTE + NOTE ≤ length cells.old }
-    requires place { place.0 < word_limit }
-    requires bar { bar < word_limit }
-    ensures { cells.new ≡
-        with_record NOTE cells.old to (copy_of place.0 bar (record_at NOTE cells.old from)) }
-{
-    let at = to * NOTE;
-    copy_words(cells, from * NOTE, at, NOTE);
-    renew(&mut cells[at..at + NOTE], place, bar);
-}
-
 // The `count` records from record `from` on, copied to record `to` on.
-fn copy_bar(cells: &mut [i32], from: usize, to: usize, count: usize, place: Place, bar: u32)
+fn copy_behind(cells: &mut [i32], from: usize, to: usize, count: usize, place: Place, bar: u32)
     requires later { from + count ≤ to }
     requires room { to * NOTE + count * NOTE ≤ length cells.old }
     requires place { place.0 < word_limit }
@@ -88,10 +61,8 @@ fn copy_bar(cells: &mut [i32], from: usize, to: usize, count: usize, place: Plac
     ensures { cells.new ≡
         written cells.old (to * NOTE) (copies place.0 bar (drop (from * NOTE) cells.old) count) }
 {
-    // By number: a record and its copy are two places of the same cells.
-    for k in 0..count {
-        copy_within(cells, from + k, to + k, place, bar);
-    }
+    let (front, back) = cells.split_at_mut(to * NOTE);
+    copy_records(back, &front[from * NOTE..], count, place, bar);
 }
 
 impl<'a> Records<'a, NOTE> {
@@ -131,7 +102,8 @@ impl<'a> Records<'a, NOTE> {
         if self.cells.len() - self.count * NOTE < count * NOTE {
             return Err(NoRoom);
         }
-        copy_figure(self.cells, self.count, figure, count, place, bar);
+        let at = self.count * NOTE;
+        copy_records(&mut self.cells[at..], figure, count, place, bar);
         self.count += count;
         Ok(())
     }
@@ -160,7 +132,7 @@ impl<'a> Records<'a, NOTE> {
         if self.cells.len() - self.count * NOTE < count * NOTE {
             return Err(NoRoom);
         }
-        copy_bar(self.cells, from, self.count, count, place, bar);
+        copy_behind(self.cells, from, self.count, count, place, bar);
         self.count += count;
         Ok(())
     }
