@@ -1,26 +1,14 @@
 // Copies of note records: into the figure, from the figure, and of a bar.
-ghost use Rattle.std.specs.Prelude.{◌≡◌, ◌+◌, ◌*◌, ◌≤◌, ◌<◌, ◌++◌, ◌↔◌, length, take, drop};
+ghost use Rattle.std.specs.Prelude.{◌≡◌, ◌+◌, ◌*◌, ◌≤◌, ◌<◌, ◌↔◌, length, take, drop};
 ghost use Rattle.std.specs.Prelude.{OnOk, OnErr, IsErr};
-ghost use Rattle.stores.specs.Cells.{record_at, with_record, written, word_limit};
+ghost use Rattle.stores.specs.Cells.{written, word_limit};
 ghost use Rattle.stores.specs.Copies.{copy_of, copies};
 
 use super::cells::{NOTE, NoRoom, Records};
 use super::note::{BAR_NUMBER, PLACE, TIES};
 use tokens::cut::Place;
 
-// A copy's words: another place and bar, and no ties.
-fn renew(words: &mut [i32], place: Place, bar: u32)
-    requires whole { length words.old ≡ NOTE }
-    requires place { place.0 < word_limit }
-    requires bar { bar < word_limit }
-    ensures { words.new ≡ copy_of place.0 bar words.old }
-{
-    words[PLACE] = place.0 as i32;
-    words[TIES] = 0;
-    words[BAR_NUMBER] = bar as i32;
-}
-
-// The first words, a record's, copied into others.
+// A record's words copied into others, with another place and bar, and no ties.
 fn copy_record(target: &mut [i32], source: &[i32], place: Place, bar: u32)
     requires target { length target.old ≡ NOTE }
     requires source { length source.now ≡ NOTE }
@@ -29,7 +17,9 @@ fn copy_record(target: &mut [i32], source: &[i32], place: Place, bar: u32)
     ensures { target.new ≡ copy_of place.0 bar source.now }
 {
     target.copy_from_slice(source);
-    renew(target, place, bar);
+    target[PLACE] = place.0 as i32;
+    target[TIES] = 0;
+    target[BAR_NUMBER] = bar as i32;
 }
 
 // The first `count` records, copied into others.
