@@ -239,13 +239,13 @@ fn in_order(value: &[u8], order: &[u8]) -> bool
     ensures { result ≡ begins (letters_from none value.now) order.now }
 {
     let mut sign = None;
-    let mut next = 0;
+    let mut left = order;
     for byte in value {
         if Sign::names(sign, *byte) {
-            if next == order.len() || order[next] != *byte {
-                return false;
+            match left {
+                [next, rest @ ..] if *next == *byte => left = rest,
+                _ => return false,
             }
-            next += 1;
         }
         sign = Sign::after(sign, *byte);
     }
