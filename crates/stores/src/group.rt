@@ -22,6 +22,7 @@ pub struct Timed {
 }
 
 /// What a `)` makes of its group: nothing, a fermata, a tuplet of so many, or d11 with the number.
+/// `Nothing` is a case of its own, as in the rules: what a `)` makes, not the lack of a `)`.
 #[derive(Clone, Copy, Debug, PartialEq, Eq)]
 pub enum Closing {
     Nothing,
@@ -48,6 +49,7 @@ fn timed_in(part: &[i32], count: usize) -> Timed
     ensures last_within { result.last ≤ count - 1 }
 {
     let mut timed = Timed { count: 0, last: 0 };
+    // By number, as below, where the records are changed.
     for k in 0..count {
         let at = k * NOTE;
         if is_timed(&part[at..at + NOTE]) {
@@ -96,6 +98,7 @@ fn beam_each(part: &mut [i32], count: usize, total: usize)
     ensures { part.new ≡ (walked (beamed_words total) part.old count).0 }
 {
     let mut earlier = 0;
+    // By number: std doesn't say what is in the cells after `chunks_exact_mut`.
     for k in 0..count {
         let at = k * NOTE;
         if is_timed(&part[at..at + NOTE]) {
@@ -122,6 +125,7 @@ fn tuplet(part: &mut [i32], count: usize, actual: u8, normal: u8)
     requires room { count * NOTE ≤ length part.old }
     ensures { part.new ≡ tupled actual normal part.old count }
 {
+    // By number, as above.
     for k in 0..count {
         let at = k * NOTE;
         if is_timed(&part[at..at + NOTE]) {
