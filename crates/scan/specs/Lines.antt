@@ -28,7 +28,10 @@ pub record IsFirstLine (s : Lines) (line : TextLine) (t : Lines) : Type 0 where
 
 -- the next line is given, or there is none
 abbrev pub GivesLine : Lines → Option TextLine → Lines → Type 0
-GivesLine s r t = MatchOption r ((before : List rules.Line) → lines_left s before ≡ before) (λ line. IsFirstLine s line t)
+GivesLine s r t =
+    MatchOption r
+    ((before : List rules.Line) → lines_left s before ≡ before)
+    (λ line. IsFirstLine s line t)
 
 -- no more lines are left than bytes
 abbrev pub lines_at_most : Lines → Count

@@ -1,5 +1,5 @@
 // Characters of a text in UTF-8. A text is a slice of its bytes: each part of it has an offset.
-ghost use Rattle.std.specs.Prelude.{◌≡◌, ◌+◌, ◌<◌, ◌≤◌, ◌*◌, ◌%◌, [], ◌∷◌, length, drop};
+ghost use Rattle.std.specs.Prelude.{◌≡◌, ◌+◌, ◌<◌, ◌≤◌, ◌%◌, ◌∷◌, length};
 ghost use Rattle.rules.specs.Characters.{is_formed, continues, character_size, characters_in};
 ghost use Rattle.rules.specs.Characters.{code_point, within_one, white_space, is_blank, in_blank};
 ghost use Rattle.rules.specs.Characters.{blanks_size, all_blank, non_blanks_size, trim_end};
@@ -125,6 +125,7 @@ pub fn blanks_size(rest: &[u8]) -> usize
     ensures within { result ≤ length rest.now }
 {
     let mut size = 0;
+    // No iterator gives all that follows each byte, which the test looks at.
     while in_blank(&rest[size..]) {
         size += 1;
     }
@@ -155,7 +156,6 @@ pub fn non_blanks_size(rest: &[u8], most: usize) -> usize
 }
 
 /// The part without the blanks at its end.
-
 #[tactic(auto, using(crate::proofs::Trims::ends))]
 pub fn trim_end(part: &[u8]) -> &[u8]
     ensures trimmed { result.now ≡ trim_end part.now }
@@ -163,6 +163,7 @@ pub fn trim_end(part: &[u8]) -> &[u8]
 {
     let mut end = part.len();
     let mut at = part.len();
+    // No iterator from the end gives all that follows each byte, which the test looks at.
     while 0 < at && in_blank(&part[at - 1..]) {
         at -= 1;
         if !is_continuation(part[at]) {

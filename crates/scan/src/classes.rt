@@ -1,7 +1,7 @@
 // Classes of bytes, and the runs of them that a text begins with.
 ghost use Rattle.std.specs.Prelude.{◌≡◌, ◌≤◌, length};
 ghost use Rattle.std.specs.List.{prefix_len};
-ghost use Rattle.rules.specs.Text.{is_digit, is_note_letter, run_length, begins, is_text};
+ghost use Rattle.rules.specs.Text.{is_note_letter, run_length, begins, is_text};
 
 /// A class of bytes.
 #[derive(Clone, Copy, Debug, PartialEq, Eq)]

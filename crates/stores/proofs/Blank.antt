@@ -1,7 +1,7 @@
 -- Cells that are 0 behind the records. Assumes nothing.
 use Prim.Native.Nat.{ℕ, zero, suc, ◌+◌, ◌-◌, ◌*◌, ◌≤◌}
 use native.Mathlib.Omega.{arith}
-use native.Mathlib.Nat.{sub-zero, suc-mul, suc-sub-suc, zero-sub}
+use native.Mathlib.Nat.{suc-mul}
 use native.Mathlib.Numerals.{add-one}
 use mathlib.Core.Path.{◌≡◌, refl, sym, ap, ◌∙◌}
 use mathlib.Core.List.{List, ◌∷◌, ◌++◌, append_assoc}
@@ -10,16 +10,12 @@ use lib.ListN.{length, take, drop, length-append, length-drop, length-replicate}
 use lib.Seq.{drop_at, drop-drop, length-take-le}
 use Rattle.rules.specs.Words.{zeros}
 use Rattle.stores.specs.Cells.{written, record_at, BlankFrom}
+use Rattle.stores.proofs.Parts.{drop-zeros}
 
 take-zeros : (k n : ℕ) → k ≤ n → take k (zeros n) ≡ zeros k
 take-zeros zero n h = refl
 take-zeros (suc k) zero h = absurd (omega arith)
 take-zeros (suc k) (suc n) h = ap (λ (l : List ℤ). pos 0 ∷ l) (take-zeros k n (omega arith))
-
-drop-zeros : (k m : ℕ) → drop k (zeros m) ≡ zeros (m - k)
-drop-zeros zero m = rw sub-zero
-drop-zeros (suc k) zero = rw zero-sub
-drop-zeros (suc k) (suc m) = rw (suc-sub-suc m k) (drop-zeros k m)
 
 -- cleared cells
 pub blank-cleared : (n at : ℕ) → BlankFrom at (zeros n)
@@ -41,18 +37,3 @@ blank-stored size n l w m b h e g =
     let len : length m ≡ length l = rw whole (rw (length-append, front, length-drop) (omega arith)) in
     let d : drop (a + size) l ≡ zeros (length l - (a + size)) = sym (drop-drop size a l) ∙ ap (drop size) b ∙ drop-zeros size (length l - a) ∙ ap zeros (omega arith) in
     rw (next, len) (ap (drop (a + size)) whole ∙ drop_at (take a l ++ w) (drop (a + size) l) (a + size) front ∙ d)
-
--- words written before leave what is behind
-pub blank-written : (at b : ℕ) (l w : List ℤ) → at + length w ≤ b → b ≤ length l → BlankFrom b l → BlankFrom b (written l at w)
-blank-written at b l w h g z =
-    let n = at + length w in
-    let j = b - n in
-    let e : n + j ≡ b = omega arith in
-    let front : length (take at l ++ w) ≡ n = rw (length-append, length-take-le at l (omega arith)) in
-    let whole : written l at w ≡ (take at l ++ w) ++ drop n l = rw append_assoc in
-    let len : length (written l at w) ≡ length l = whole-length n (take at l ++ w) l (written l at w) front whole (omega arith) in
-    let same : drop (n + j) (written l at w) ≡ drop (n + j) l = sym (drop-drop j n (written l at w)) ∙ ap (drop j) (ap (drop n) whole ∙ drop_at (take at l ++ w) (drop n l) n front) ∙ drop-drop j n l in
-    ap (λ k. drop k (written l at w)) (sym e) ∙ same ∙ ap (λ k. drop k l) e ∙ z ∙ ap (λ k. zeros (k - b)) (sym len)
-  where
-    whole-length : (n : ℕ) (f l m : List ℤ) → length f ≡ n → m ≡ f ++ drop n l → n ≤ length l → length m ≡ length l
-    whole-length n f l m e g h = rw g (rw (length-append, e, length-drop) (omega arith))

@@ -1,12 +1,13 @@
 -- Copies of records: one more is one store more. Assumes nothing.
-use Prim.Native.Nat.{ℕ, zero, suc, ◌+◌, ◌*◌, ◌<◌, ◌≤◌}
+use Prim.Native.Nat.{ℕ, zero, suc, ◌+◌, ◌-◌, ◌*◌, ◌≤◌}
 use native.Mathlib.Omega.{arith}
-use native.Mathlib.Nat.{add-zero, add_assoc, zero-mul, suc-mul, add-mul}
+use native.Mathlib.Nat.{zero-add, add-zero, add_assoc, zero-mul, suc-mul}
 use native.Mathlib.Numerals.{add-one}
-use mathlib.Core.Path.{◌≡◌, sym, ap, ◌∙◌}
+use mathlib.Core.Path.{◌≡◌, refl, sym, ap, ◌∙◌}
 use mathlib.Core.List.{List, [], ◌++◌, append_assoc}
 use lib.IntN.{ℤ}
 use lib.ListN.{length, take, drop, length-append, length-drop, length-set, take-append-drop}
+use Rattle.std.proofs.lemmas.List.{take_all}
 use lib.Seq.{take_at, drop_at, drop-drop, length-take-le, take-append-le, drop-append-le}
 use Rattle.rules.specs.Limits.{note_size}
 use Rattle.stores.specs.Cells.{written, record_at, with_record}
@@ -25,16 +26,6 @@ written-more l b w v n e h =
 read-front : (size : ℕ) (xs ys : List ℤ) (i : ℕ) → i * size + size ≤ length xs → record_at size (xs ++ ys) i ≡ record_at size xs i
 read-front size xs ys i h = rw (drop-append-le (i * size) xs ys (omega arith)) (take-append-le size (drop (i * size) xs) ys (rw length-drop (omega arith)))
 
--- a record before what was written
-read-before : (size : ℕ) (l : List ℤ) (b : ℕ) (w : List ℤ) (i : ℕ) → i * size + size ≤ b → b ≤ length l → record_at size (written l b w) i ≡ record_at size l i
-read-before size l b w i h g =
-    let k : i * size + size ≤ length (take b l) = rw (length-take-le b l g) h in
-    read-front size (take b l) (w ++ drop (b + length w) l) i k ∙ sym (read-front size (take b l) (drop b l) i k) ∙ rw (take-append-drop b l)
-
--- a record after others
-record-drop : (size : ℕ) (l : List ℤ) (a k : ℕ) → record_at size l (a + k) ≡ record_at size (drop (a * size) l) k
-record-drop size l a k = rw (add-mul, drop-drop)
-
 pub length-copies : (place bar : ℕ) (source : List ℤ) (k : ℕ) → k * note_size ≤ length source → length (copies place bar source k) ≡ k * note_size
 length-copies place bar source zero h = rw zero-mul
 length-copies place bar source (suc k) h =
@@ -42,16 +33,33 @@ length-copies place bar source (suc k) h =
     rw (length-append, length-copies place bar source k (omega arith), length-set, length-set, length-set, length-take-le note_size (drop (k * note_size) source) (rw length-drop (omega arith)), suc-mul)
 
 -- one copy more
-pub copies-more : (place bar : ℕ) (l : List ℤ) (to : ℕ) (source : List ℤ) (k : ℕ) → k * note_size + note_size ≤ length source → to * note_size + k * note_size ≤ length l
-    → with_record note_size (written l (to * note_size) (copies place bar source k)) (to + k) (copy_of place bar (record_at note_size source k)) ≡ written l (to * note_size) (copies place bar source (k + 1))
-copies-more place bar l to source k h g =
-    rw (add-one k, add-mul) (written-more l (to * note_size) (copies place bar source k) (copy_of place bar (record_at note_size source k)) (k * note_size) (length-copies place bar source k (omega arith)) g)
+pub copies-more : (place bar : ℕ) (l source : List ℤ) (k : ℕ) → k * note_size + note_size ≤ length source → k * note_size + note_size ≤ length l
+    → with_record note_size (written l 0 (copies place bar source k)) k (copy_of place bar (record_at note_size source k)) ≡ written l 0 (copies place bar source (k + 1))
+copies-more place bar l source k h g =
+    let w = copies place bar source k in
+    let v = copy_of place bar (record_at note_size source k) in
+    rw (add-one k) (ap (λ n. written (written l 0 w) n v) (sym (zero-add (k * note_size))) ∙ written-more l 0 w v (k * note_size) (length-copies place bar source k (omega arith)) (omega arith))
 
--- the record that is copied stands before the copies
-pub copies-more-within : (place bar : ℕ) (l : List ℤ) (from to k : ℕ) → from + k < to → to * note_size + k * note_size ≤ length l
-    → let m = written l (to * note_size) (copies place bar (drop (from * note_size) l) k) in
-    with_record note_size m (to + k) (copy_of place bar (record_at note_size m (from + k))) ≡ written l (to * note_size) (copies place bar (drop (from * note_size) l) (k + 1))
-copies-more-within place bar l from to k h g =
-    let source = drop (from * note_size) l in
-    let e : record_at note_size (written l (to * note_size) (copies place bar source k)) (from + k) ≡ record_at note_size source k = read-before note_size l (to * note_size) (copies place bar source k) (from + k) (omega arith) (omega arith) ∙ record-drop note_size l from k in
-    ap (λ (r : List ℤ). with_record note_size (written l (to * note_size) (copies place bar source k)) (to + k) (copy_of place bar r)) e ∙ copies-more place bar l to source k (rw length-drop (omega arith)) g
+-- copies of what stands before more words
+copies-front : (place bar : ℕ) (xs ys : List ℤ) (k : ℕ) → k * note_size ≤ length xs → copies place bar (xs ++ ys) k ≡ copies place bar xs k
+copies-front place bar xs ys zero h = refl
+copies-front place bar xs ys (suc k) h =
+    let m : k * note_size + note_size ≤ length xs = rw suc-mul at h in
+    rw (copies-front place bar xs ys k (omega arith), read-front note_size xs ys k m)
+
+-- words written at the start of what stands behind
+pub written_behind : (a : ℕ) (l w : List ℤ) → take a l ++ written (drop a l) 0 w ≡ written l a w
+written_behind a l w = rw (drop-drop, zero-add)
+
+-- copies of records before, written behind
+pub copied_behind : (place bar : ℕ) (l : List ℤ) (a b k : ℕ) → a + k * note_size ≤ b → b ≤ length l
+    → let front = take b l in
+    front ++ written (drop b l) 0 (copies place bar (take (length front - a) (drop a front)) k) ≡ written l b (copies place bar (drop a l) k)
+copied_behind place bar l a b k h g =
+    let front = take b l in
+    let n : length front ≡ b = length-take-le b l g in
+    let m : length (drop a front) ≡ b - a = rw (length-drop, n) in
+    let whole : take (length front - a) (drop a front) ≡ drop a front = take_all (length front - a) (drop a front) (omega (arith, m, n)) in
+    let e : drop a front ++ drop b l ≡ drop a l = sym (drop-append-le a front (drop b l) (omega (arith, n, h))) ∙ ap (drop a) (take-append-drop b l) in
+    let f = copies-front place bar (drop a front) (drop b l) k (omega (arith, m, h)) in
+    rw whole (written_behind b l (copies place bar (drop a front) k) ∙ ap (written l b) (sym f ∙ ap (λ (s : List ℤ). copies place bar s k) e))

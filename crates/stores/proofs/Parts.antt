@@ -1,13 +1,13 @@
 -- A part of the cells that was lent, and records in cleared cells. Assumes nothing.
-use Prim.Native.Nat.{ℕ, zero, suc, ◌+◌, ◌-◌, ◌*◌, ◌<◌, ◌≤◌}
+use Prim.Native.Nat.{ℕ, zero, suc, ◌+◌, ◌-◌, ◌*◌, ◌≤◌}
 use native.Mathlib.Omega.{arith}
 use native.Mathlib.Nat.{suc-sub-suc, sub-zero, zero-sub, add_assoc}
-use mathlib.Core.Path.{◌≡◌, refl, sym, ap, ◌∙◌}
+use mathlib.Core.Path.{◌≡◌, sym, ap, ◌∙◌}
 use mathlib.Core.List.{List, ◌++◌, append_assoc}
 use lib.IntN.{ℤ}
-use lib.ListN.{length, set, length-set, take, drop, length-append, length-replicate, take-append-drop, length-drop}
-use lib.Seq.{drop-drop, drop-append-le, drop-append_seam, length-take-le, take_at, drop_at}
-use borrow.Rule.Slice.PartMut.{put_mid, set_mid_at}
+use lib.ListN.{length, take, drop, length-append, length-replicate, take-append-drop, length-drop}
+use lib.Seq.{drop-drop, drop-append-le, drop-append_seam, length-take-le}
+use borrow.Rule.Slice.PartMut.{put_mid}
 use Rattle.rules.specs.Words.{zeros}
 use Rattle.stores.specs.Cells.{written, record_at, with_record, changed}
 
@@ -15,14 +15,19 @@ use Rattle.stores.specs.Cells.{written, record_at, with_record, changed}
 pub put_written : (a k : ℕ) (l r : List ℤ) → length r ≡ k → put_mid a k l r ≡ written l a r
 put_written a k l r e = rw (e, drop-drop)
 
+-- a record lent comes back as f of a record of other words
+pub put_other : (size n k i j : ℕ) (f : List ℤ → List ℤ) (l s r : List ℤ) → k ≡ size → j ≡ size → n * size + size ≤ length l
+    → r ≡ f (take j (drop (i * size) s)) → length r ≡ length (take k (drop (n * size) l)) → put_mid (n * size) k l r ≡ with_record size l n (f (record_at size s i))
+put_other size n k i j f l s r e d h g m =
+    let len : length r ≡ k = m ∙ length-take-le k (drop (n * size) l) (rw (length-drop, e) (omega arith)) in
+    put_written (n * size) k l r len ∙ rw (g, d)
+
 -- a record lent comes back changed by f
 pub put_record : (size n k : ℕ) (f : List ℤ → List ℤ) (l r : List ℤ) → k ≡ size → n * size + size ≤ length l
     → r ≡ f (take k (drop (n * size) l)) → length r ≡ length (take k (drop (n * size) l)) → put_mid (n * size) k l r ≡ changed size f l n
-put_record size n k f l r e h g m =
-    let len : length r ≡ k = m ∙ length-take-le k (drop (n * size) l) (rw (length-drop, e) (omega arith)) in
-    put_written (n * size) k l r len ∙ rw (g, e)
+put_record size n k f l r e h g m = put_other size n k n k f l l r e e h g m
 
-drop-zeros : (k m : ℕ) → drop k (zeros m) ≡ zeros (m - k)
+pub drop-zeros : (k m : ℕ) → drop k (zeros m) ≡ zeros (m - k)
 drop-zeros zero m = rw sub-zero
 drop-zeros (suc k) zero = rw zero-sub
 drop-zeros (suc k) (suc m) = rw (suc-sub-suc m k) (drop-zeros k m)
@@ -41,25 +46,3 @@ record-front size l number k w e h =
     (sym (drop-drop (length w) start l)
     ∙ ap (drop (length w)) (sym (take-append-drop size (drop start l)))
     ∙ rw (h, drop-append-le (length w) (zeros size) rest (rw length-replicate (omega arith)), drop-zeros (length w) size, m))
-
--- one word of a record written
-pub set_word : (size n k : ℕ) (v : ℤ) (l : List ℤ) → k < size → n * size + size ≤ length l → set l (n * size + k) v ≡ changed size (λ w. set w k v) l n
-set_word size n k v l h g =
-    let len : length (take size (drop (n * size) l)) ≡ size = length-take-le size (drop (n * size) l) (rw length-drop (omega arith)) in
-    sym (set_mid_at (n * size) size k l v (rw len h))
-    ∙ put_record size n size (λ w. set w k v) l (set (take size (drop (n * size) l)) k v) refl g refl (length-set (take size (drop (n * size) l)) k v)
-
--- a record written, lent, and changed by f
-pub put_renewed : (size n k : ℕ) (f : List ℤ → List ℤ) (l w m r : List ℤ) → k ≡ size → length w ≡ size → n * size + size ≤ length l
-    → m ≡ take (n * size) l ++ (w ++ drop (n * size + size) l) → r ≡ f (take k (drop (n * size) m)) → length r ≡ length (take k (drop (n * size) m))
-    → put_mid (n * size) k m r ≡ with_record size l n (f w)
-put_renewed size n k f l w m r e g h i j z =
-    let a = n * size in
-    let d = drop (a + size) l in
-    let front : length (take a l) ≡ a = length-take-le a l (omega arith) in
-    let behind : drop a m ≡ w ++ d = rw i (drop_at (take a l) (w ++ d) a front) in
-    let lent : take k (drop a m) ≡ w = rw (behind, e) (take_at w d size g) in
-    let new : r ≡ f w = rw (← lent) j in
-    let len : length r ≡ size = rw lent at z ∙ g in
-    let before : take a m ≡ take a l = rw i (take_at (take a l) (w ++ d) a front) in
-    rw (before, behind, e, drop_at w d size g, ← new, len)

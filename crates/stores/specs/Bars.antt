@@ -24,8 +24,18 @@ pub record BarNumbers : Type 0 where
 
 -- what the code's bar says
 abbrev pub numbers_of : Bar → BarNumbers
-numbers_of b = record { first = b.first; count = b.count; clef = clef_in b.clef; fifths = fifths_in b.fifths; meter = meter_in b.meter; left = edge_number b.left; right = edge_number b.right }
+numbers_of b = record {
+  first = b.first;
+  count = b.count;
+  clef = clef_in b.clef;
+  fifths = fifths_in b.fifths;
+  meter = meter_in b.meter;
+  left = edge_number b.left;
+  right = edge_number b.right;
+}
 
 -- its words: first note, note count, clef (0 none), key, meter, left, right
 abbrev pub bar_numbers : BarNumbers → List ℤ
-bar_numbers b = pos b.first ∷ pos b.count ∷ pos (math.get_or b.clef 0) ∷ key_words b.fifths ++ meter_words b.meter ++ pos b.left ∷ pos b.right ∷ []
+bar_numbers b =
+    pos b.first ∷ pos b.count ∷ pos (math.get_or b.clef 0) ∷
+    key_words b.fifths ++ meter_words b.meter ++ pos b.left ∷ pos b.right ∷ []

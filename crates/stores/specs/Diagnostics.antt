@@ -75,7 +75,14 @@ abbrev pub lent_of : rules.Diagnostic → Diagnostic
 lent_of d =
     let p = position_words d.position in
     let w = value_words d.value in
-    record { number = pos d.number; place_kind = word p 0; place = word p 1; value_kind = word w 0; start = word w 1; end = word w 2 }
+    record {
+      number = pos d.number;
+      place_kind = word p 0;
+      place = word p 1;
+      value_kind = word w 0;
+      start = word w 1;
+      end = word w 2;
+    }
 
 -- a cell that holds no diagnostic
 abbrev pub blank : Diagnostic
@@ -105,4 +112,5 @@ count_after_all count (d ∷ before) = count_after (count_after_all count before
 
 abbrev pub list_after_all : List Diagnostic → ℕ → List rules.Diagnostic → List Diagnostic
 list_after_all list count [] = list
-list_after_all list count (d ∷ before) = diagnosed (list_after_all list count before) (count_after_all count before) (lent_of d)
+list_after_all list count (d ∷ before) =
+    diagnosed (list_after_all list count before) (count_after_all count before) (lent_of d)

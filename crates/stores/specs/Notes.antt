@@ -35,7 +35,12 @@ abbrev pub length_numbers : Option Length → List ℤ
 length_numbers l = pos (duration_of l) ∷ pos (dots_of l) ∷ []
 
 abbrev pub heading_of : Heading → rules.Heading
-heading_of h = record { place = h.place.0; kind = kind_number h.kind; duration = duration_of h.length; dots = dots_of h.length }
+heading_of h = record {
+  place = h.place.0;
+  kind = kind_number h.kind;
+  duration = duration_of h.length;
+  dots = dots_of h.length;
+}
 
 abbrev pub pitch_of : Pitch → rules.Pitch
 pitch_of q = record { place = q.place.0; step = step_number q.step; octave = q.octave.number; alter = q.alter }
@@ -52,7 +57,10 @@ number_at at words = natural (slice_index_or words at (pos 0))
 
 -- one more pitch
 abbrev pub pitched : rules.Pitch → List ℤ → List ℤ
-pitched q words = let count = number_at PITCH_COUNT words in written (slice_set words PITCH_COUNT (pos (count + 1))) (first_pitch + count * pitch_size) (pitch_words q)
+pitched q words =
+    let count = number_at PITCH_COUNT words in
+    let counted = slice_set words PITCH_COUNT (pos (count + 1)) in
+    written counted (first_pitch + count * pitch_size) (pitch_words q)
 
 -- a tie starts at it: 2 (a tie ends) becomes 3, none 1
 abbrev pub tie_started : List ℤ → List ℤ
@@ -64,5 +72,7 @@ mark_limit = power_of_two mark_capacity
 
 -- one more mark: true a trill, false a fermata
 abbrev pub marked : Bool → List ℤ → List ℤ
-marked trill words = let count = number_at MARK_COUNT words in
-    slice_set (slice_set words MARK_COUNT (pos (count + 1))) MARKS (pos (number_at MARKS words + (if trill then power_of_two count else 0)))
+marked trill words =
+    let count = number_at MARK_COUNT words in
+    let bit = if trill then power_of_two count else 0 in
+    slice_set (slice_set words MARK_COUNT (pos (count + 1))) MARKS (pos (number_at MARKS words + bit))

@@ -1,5 +1,5 @@
 // A bar's record.
-ghost use Rattle.std.specs.Prelude.{◌≡◌, ◌+◌, ◌*◌, ◌≤◌, ◌<◌, ◌↔◌, length, OnOk, OnErr, IsErr};
+ghost use Rattle.std.specs.Prelude.{◌≡◌, ◌+◌, ◌*◌, ◌<◌, ◌↔◌, length, OnOk, OnErr, IsErr};
 ghost use Rattle.stores.specs.Cells.{with_record, word_limit};
 ghost use Rattle.rules.specs.Words.{meter_words};
 ghost use Rattle.tokens.specs.Attributes.{meter_in};

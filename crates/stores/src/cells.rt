@@ -1,5 +1,6 @@
 // Records of so many words in lent cells: notes and bars alike.
-ghost use Rattle.std.specs.Prelude.{◌≡◌, ◌+◌, ◌*◌, ◌<◌, ◌≤◌, ◌↔◌, length, take, drop, slice_index_or, pos, OnOk, OnErr, IsErr};
+ghost use Rattle.std.specs.Prelude.{◌≡◌, ◌+◌, ◌*◌, ◌<◌, ◌≤◌, ◌↔◌, length, slice_index_or, pos};
+ghost use Rattle.std.specs.Prelude.{OnOk, OnErr, IsErr};
 ghost use Rattle.rules.specs.Words.{zeros};
 ghost use Rattle.rules.specs.Stored.{natural};
 ghost use Rattle.stores.specs.Cells.{record_at, with_record, BlankFrom};

@@ -1,25 +1,14 @@
 // Copies of note records: into the figure, from the figure, and of a bar.
-ghost use Rattle.std.specs.Prelude.{◌≡◌, ◌+◌, ◌-◌, ◌*◌, ◌≤◌, ◌<◌, ◌++◌, ◌↔◌, length, take, drop, OnOk, OnErr, IsErr};
-ghost use Rattle.stores.specs.Cells.{record_at, with_record, written, word_limit};
+ghost use Rattle.std.specs.Prelude.{◌≡◌, ◌+◌, ◌*◌, ◌≤◌, ◌<◌, ◌↔◌, length, take, drop};
+ghost use Rattle.std.specs.Prelude.{OnOk, OnErr, IsErr};
+ghost use Rattle.stores.specs.Cells.{written, word_limit};
 ghost use Rattle.stores.specs.Copies.{copy_of, copies};
 
 use super::cells::{NOTE, NoRoom, Records};
 use super::note::{BAR_NUMBER, PLACE, TIES};
 use tokens::cut::Place;
 
-// A copy's words: another place and bar, and no ties.
-fn renew(words: &mut [i32], place: Place, bar: u32)
-    requires whole { length words.old ≡ NOTE }
-    requires place { place.0 < word_limit }
-    requires bar { bar < word_limit }
-    ensures { words.new ≡ copy_of place.0 bar words.old }
-{
-    words[PLACE] = place.0 as i32;
-    words[TIES] = 0;
-    words[BAR_NUMBER] = bar as i32;
-}
-
-// The first words, a record's, copied into others.
+// A record's words copied into others, with another place and bar, and no ties.
 fn copy_record(target: &mut [i32], source: &[i32], place: Place, bar: u32)
     requires target { length target.old ≡ NOTE }
     requires source { length source.now ≡ NOTE }
@@ -28,75 +17,42 @@ fn copy_record(target: &mut [i32], source: &[i32], place: Place, bar: u32)
     ensures { target.new ≡ copy_of place.0 bar source.now }
 {
     target.copy_from_slice(source);
-    renew(target, place, bar);
+    target[PLACE] = place.0 as i32;
+    target[TIES] = 0;
+    target[BAR_NUMBER] = bar as i32;
 }
 
-// A record of the figure, copied.
-fn copy_from(cells: &mut [i32], to: usize, figure: &[i32], from: usize, place: Place, bar: u32)
-    requires figure { from * NOTE + NOTE ≤ length figure.now }
-    requires room { to * NOTE + NOTE ≤ length cells.old }
+// The first `count` records, copied into others.
+fn copy_records(target: &mut [i32], source: &[i32], count: usize, place: Place, bar: u32)
+    requires target { count * NOTE ≤ length target.old }
+    requires source { count * NOTE ≤ length source.now }
     requires place { place.0 < word_limit }
     requires bar { bar < word_limit }
-    ensures { cells.new ≡ with_record NOTE cells.old to (copy_of place.0 bar (record_at NOTE figure.now from)) }
+    ensures { target.new ≡ written target.old 0 (copies place.0 bar source.now count) }
 {
-    let at = to * NOTE;
-    let source = from * NOTE;
-    copy_record(
-        &mut cells[at..at + NOTE],
-        &figure[source..source + NOTE],
-        place,
-        bar,
-    );
-}
-
-// The figure's `count` records, copied to record `to` on.
-fn copy_figure(cells: &mut [i32], to: usize, figure: &[i32], count: usize, place: Place, bar: u32)
-    requires figure { count * NOTE ≤ length figure.now }
-    requires room { to * NOTE + count * NOTE ≤ length cells.old }
-    requires place { place.0 < word_limit }
-    requires bar { bar < word_limit }
-    ensures { cells.new ≡ written cells.old (to * NOTE) (copies place.0 bar figure.now count) }
-{
+    // By number: std doesn't say what is in the cells after `chunks_exact_mut`.
     for k in 0..count {
-        copy_from(cells, to + k, figure, k, place, bar);
+        let at = k * NOTE;
+        copy_record(
+            &mut target[at..at + NOTE],
+            &source[at..at + NOTE],
+            place,
+            bar,
+        );
     }
 }
 
-// Words copied behind themselves.
-fn copy_words(cells: &mut [i32], from: usize, to: usize, size: usize)
-    requires later { from + size ≤ to }
-    requires room { to + size ≤ length cells.old }
-    ensures { cells.new ≡ take to cells.old ++ (take size (drop from cells.old) ++ drop (to + size) cells.old) }
-{
-    let (front, back) = cells.split_at_mut(to);
-    let source = &front[from..from + size];
-    back[..size].copy_from_slice(source);
-}
-
-// One record copied to a later one.
-fn copy_within(cells: &mut [i32], from: usize, to: usize, place: Place, bar: u32)
-    requires later { from < to }
-    requires room { to * NOTE + NOTE ≤ length cells.old }
-    requires place { place.0 < word_limit }
-    requires bar { bar < word_limit }
-    ensures { cells.new ≡ with_record NOTE cells.old to (copy_of place.0 bar (record_at NOTE cells.old from)) }
-{
-    let at = to * NOTE;
-    copy_words(cells, from * NOTE, at, NOTE);
-    renew(&mut cells[at..at + NOTE], place, bar);
-}
-
 // The `count` records from record `from` on, copied to record `to` on.
-fn copy_bar(cells: &mut [i32], from: usize, to: usize, count: usize, place: Place, bar: u32)
+fn copy_behind(cells: &mut [i32], from: usize, to: usize, count: usize, place: Place, bar: u32)
     requires later { from + count ≤ to }
     requires room { to * NOTE + count * NOTE ≤ length cells.old }
     requires place { place.0 < word_limit }
     requires bar { bar < word_limit }
-    ensures { cells.new ≡ written cells.old (to * NOTE) (copies place.0 bar (drop (from * NOTE) cells.old) count) }
+    ensures { cells.new ≡
+        written cells.old (to * NOTE) (copies place.0 bar (drop (from * NOTE) cells.old) count) }
 {
-    for k in 0..count {
-        copy_within(cells, from + k, to + k, place, bar);
-    }
+    let (front, back) = cells.split_at_mut(to * NOTE);
+    copy_records(back, &front[from * NOTE..], count, place, bar);
 }
 
 impl<'a> Records<'a, NOTE> {
@@ -104,7 +60,8 @@ impl<'a> Records<'a, NOTE> {
     pub fn take_figure(&self, figure: &mut [i32], from: usize, count: usize)
         requires from { from + count ≤ self.now.count }
         requires room { count * NOTE ≤ length figure.old }
-        ensures { figure.new ≡ written figure.old 0 (take (count * NOTE) (drop (from * NOTE) self.now.cells.now)) }
+        ensures { figure.new ≡
+            written figure.old 0 (take (count * NOTE) (drop (from * NOTE) self.now.cells.now)) }
     {
         let start = from * NOTE;
         let size = count * NOTE;
@@ -123,7 +80,8 @@ impl<'a> Records<'a, NOTE> {
         requires place { place.0 < word_limit }
         requires bar { bar < word_limit }
         ensures same_cells { self.new.cells.ghost_name ≡ self.old.cells.ghost_name }
-        ensures full { IsErr result ↔ (length self.old.cells.now < self.old.count * NOTE + count * NOTE) }
+        ensures full { IsErr result ↔
+            (length self.old.cells.now < self.old.count * NOTE + count * NOTE) }
         ensures err { OnErr result (self.new.cells ≡ self.old.cells) }
         ensures err_count { OnErr result (self.new.count ≡ self.old.count) }
         ensures copied { OnOk result (self.new.cells.now ≡
@@ -134,7 +92,8 @@ impl<'a> Records<'a, NOTE> {
         if self.cells.len() - self.count * NOTE < count * NOTE {
             return Err(NoRoom);
         }
-        copy_figure(self.cells, self.count, figure, count, place, bar);
+        let at = self.count * NOTE;
+        copy_records(&mut self.cells[at..], figure, count, place, bar);
         self.count += count;
         Ok(())
     }
@@ -151,18 +110,19 @@ impl<'a> Records<'a, NOTE> {
         requires place { place.0 < word_limit }
         requires bar { bar < word_limit }
         ensures same_cells { self.new.cells.ghost_name ≡ self.old.cells.ghost_name }
-        ensures full { IsErr result ↔ (length self.old.cells.now < self.old.count * NOTE + count * NOTE) }
+        ensures full { IsErr result ↔
+            (length self.old.cells.now < self.old.count * NOTE + count * NOTE) }
         ensures err { OnErr result (self.new.cells ≡ self.old.cells) }
         ensures err_count { OnErr result (self.new.count ≡ self.old.count) }
         ensures copied { OnOk result (self.new.cells.now ≡
-            written self.old.cells.now (self.old.count * NOTE) (copies place.0 bar (drop
-            (from * NOTE) self.old.cells.now) count)) }
+            written self.old.cells.now (self.old.count * NOTE)
+            (copies place.0 bar (drop (from * NOTE) self.old.cells.now) count)) }
         ensures counted { OnOk result (self.new.count ≡ self.old.count + count) }
     {
         if self.cells.len() - self.count * NOTE < count * NOTE {
             return Err(NoRoom);
         }
-        copy_bar(self.cells, from, self.count, count, place, bar);
+        copy_behind(self.cells, from, self.count, count, place, bar);
         self.count += count;
         Ok(())
     }

@@ -1,10 +1,12 @@
-// Diagnostics, made of lines, places and offsets that can't be taken for one another, and stored in a lent list.
-ghost use Rattle.std.specs.Prelude.{◌≡◌, ◌≤◌, ◌<◌, length};
+// Diagnostics, made of lines, places and offsets that can't be taken for one another, and stored
+// in a lent list.
+ghost use Rattle.std.specs.Prelude.{◌≡◌, ◌≤◌, length};
 ghost use Rattle.rules.specs.Limits.{diagnostic_limit};
 ghost use Rattle.rules.specs.Diagnostics.{diagnostic, unless, clef_diagnosed};
 ghost use Rattle.rules.specs.Words.{position_words, value_words, diagnostic_words};
-ghost use Rattle.stores.specs.Cells.{word_limit};
-ghost use Rattle.stores.specs.Diagnostics.{WritesRemark, remark_number, position_in, value_in, AtFits, ValueFits, six_words, lent_of, blanks, diagnosed, count_after, count_after_all, list_after_all};
+ghost use Rattle.stores.specs.Diagnostics.{WritesRemark, remark_number, position_in, value_in};
+ghost use Rattle.stores.specs.Diagnostics.{AtFits, ValueFits, six_words, lent_of, blanks};
+ghost use Rattle.stores.specs.Diagnostics.{diagnosed, count_after, count_after_all, list_after_all};
 ghost use Rattle.tokens.specs.Attributes.{clef_value};
 
 use scan::lines::{Line, Offset};
@@ -63,7 +65,8 @@ pub enum Value {
     Number(u32),
 }
 
-/// Number; place kind (1 line, 2 line with field, 3 data), place; value kind (1 part of the text, 2 `()`, 3 a number), start, end.
+/// Number; place kind (1 line, 2 line with field, 3 data), place; value kind (1 part of the text,
+/// 2 `()`, 3 a number), start, end.
 #[repr(C)]
 #[derive(Clone, Copy, Debug, Default, PartialEq, Eq)]
 pub struct Diagnostic {
@@ -108,7 +111,8 @@ impl Diagnostic {
     pub fn new(remark: Remark, at: At, value: Value) -> Diagnostic
         requires at_fits { AtFits at }
         requires value_fits { ValueFits value }
-        ensures lent { result ≡ lent_of (diagnostic (remark_number remark) (position_in at) (value_in value)) }
+        ensures lent { result ≡
+            lent_of (diagnostic (remark_number remark) (position_in at) (value_in value)) }
         ensures words { six_words result ≡
             diagnostic_words (diagnostic (remark_number remark) (position_in at) (value_in value)) }
     {
@@ -154,7 +158,8 @@ impl<'a> Diagnostics<'a> {
         self.list.fill(Diagnostic::default());
     }
 
-    /// Stores one more at the count, where the list has a cell; those beyond the first 1,024 are dropped.
+    /// Stores one more at the count, where the list has a cell; those beyond the first 1,024 are
+    /// dropped.
     pub fn push(&mut self, remark: Remark, at: At, value: Value)
         requires at_fits { AtFits at }
         requires value_fits { ValueFits value }

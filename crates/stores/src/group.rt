@@ -1,11 +1,15 @@
-// Groups over a part of the notes: beams, tuplets, fermatas. The step is lent the notes from a record on, so those before are untouched.
-ghost use Rattle.std.specs.Prelude.{◌≡◌, ◌+◌, ◌-◌, ◌*◌, ◌≤◌, ◌<◌, ◌↔◌, length, drop, pos, OnOk, OnErr, IsErr};
+// Groups over a part of the notes: beams, tuplets, fermatas. The step is lent the notes from a
+// record on, so those before are untouched.
+ghost use Rattle.std.specs.Prelude.{◌≡◌, ◌+◌, ◌-◌, ◌*◌, ◌≤◌, ◌<◌, ◌↔◌, length, drop, pos};
+ghost use Rattle.std.specs.Prelude.{OnOk, OnErr, IsErr};
 ghost use Rattle.rules.specs.Limits.{mark_capacity};
 ghost use Rattle.rules.specs.Rules.{closing, tuplet_of};
 ghost use Rattle.tokens.specs.Numbers.{number_in};
-ghost use Rattle.stores.specs.Cells.{record_at, changed, on_part, word_limit};
+ghost use Rattle.stores.specs.Cells.{on_part, word_limit};
 ghost use Rattle.stores.specs.Notes.{number_at, mark_limit};
-ghost use Rattle.stores.specs.Groups.{timed_at, timed_count, last_non_grace, beam_number, beamed_words, tupled_words, walked, beamed, tupled, last_timed, fermata_in, closing_of, ThreeAtLeast};
+ghost use Rattle.stores.specs.Groups.{timed_at, timed_count, last_non_grace, last_timed};
+ghost use Rattle.stores.specs.Groups.{beam_number, beamed_words, tupled_words, walked, beamed};
+ghost use Rattle.stores.specs.Groups.{tupled, fermata_in, closing_of, ThreeAtLeast};
 
 use super::cells::{MAX_MARKS, NOTE, NoRoom, Records, natural};
 use super::note::{ACTUAL, BEAM, KIND, MARK_COUNT, MARKS, NORMAL, NoteKind, add_mark};
@@ -18,6 +22,7 @@ pub struct Timed {
 }
 
 /// What a `)` makes of its group: nothing, a fermata, a tuplet of so many, or d11 with the number.
+/// `Nothing` is a case of its own, as in the rules: what a `)` makes, not the lack of a `)`.
 #[derive(Clone, Copy, Debug, PartialEq, Eq)]
 pub enum Closing {
     Nothing,
@@ -26,11 +31,12 @@ pub enum Closing {
     TooFew(u8),
 }
 
-fn is_timed(part: &[i32], number: usize) -> bool
-    requires { number * NOTE + NOTE ≤ length part.now }
-    ensures { result ≡ timed_at part.now number }
+// Whether a record is non-grace.
+fn is_timed(words: &[i32]) -> bool
+    requires { length words.now ≡ NOTE }
+    ensures { result ≡ timed_at words.now 0 }
 {
-    let kind = natural(part[number * NOTE + KIND]);
+    let kind = natural(words[KIND]);
     kind != NoteKind::Grace as u32 && kind != NoteKind::SlashedGrace as u32
 }
 
@@ -43,8 +49,10 @@ fn timed_in(part: &[i32], count: usize) -> Timed
     ensures last_within { result.last ≤ count - 1 }
 {
     let mut timed = Timed { count: 0, last: 0 };
+    // By number, as below, where the records are changed.
     for k in 0..count {
-        if is_timed(part, k) {
+        let at = k * NOTE;
+        if is_timed(&part[at..at + NOTE]) {
             timed.count += 1;
             timed.last = k;
         }
@@ -74,16 +82,6 @@ fn set_beam(words: &mut [i32], earlier: usize, total: usize)
     words[BEAM] = beam_number(earlier, total);
 }
 
-// A beam at one record.
-fn beam_record(part: &mut [i32], number: usize, earlier: usize, total: usize)
-    requires room { number * NOTE + NOTE ≤ length part.old }
-    requires fits { earlier < word_limit }
-    ensures { part.new ≡ changed NOTE (beamed_words total earlier) part.old number }
-{
-    let at = number * NOTE;
-    set_beam(&mut part[at..at + NOTE], earlier, total);
-}
-
 // One record's words with a tuplet.
 fn set_tuplet(words: &mut [i32], actual: u8, normal: u8)
     requires { length words.old ≡ NOTE }
@@ -93,15 +91,6 @@ fn set_tuplet(words: &mut [i32], actual: u8, normal: u8)
     words[NORMAL] = i32::from(normal);
 }
 
-// A tuplet at one record.
-fn tuple_record(part: &mut [i32], number: usize, actual: u8, normal: u8)
-    requires { number * NOTE + NOTE ≤ length part.old }
-    ensures { part.new ≡ changed NOTE (tupled_words actual normal 0) part.old number }
-{
-    let at = number * NOTE;
-    set_tuplet(&mut part[at..at + NOTE], actual, normal);
-}
-
 // The non-grace ones of the part's first `count` records, beamed.
 fn beam_each(part: &mut [i32], count: usize, total: usize)
     requires room { count * NOTE ≤ length part.old }
@@ -109,9 +98,11 @@ fn beam_each(part: &mut [i32], count: usize, total: usize)
     ensures { part.new ≡ (walked (beamed_words total) part.old count).0 }
 {
     let mut earlier = 0;
+    // By number: std doesn't say what is in the cells after `chunks_exact_mut`.
     for k in 0..count {
-        if is_timed(part, k) {
-            beam_record(part, k, earlier, total);
+        let at = k * NOTE;
+        if is_timed(&part[at..at + NOTE]) {
+            set_beam(&mut part[at..at + NOTE], earlier, total);
             earlier += 1;
         }
     }
@@ -134,9 +125,11 @@ fn tuplet(part: &mut [i32], count: usize, actual: u8, normal: u8)
     requires room { count * NOTE ≤ length part.old }
     ensures { part.new ≡ tupled actual normal part.old count }
 {
+    // By number, as above.
     for k in 0..count {
-        if is_timed(part, k) {
-            tuple_record(part, k, actual, normal);
+        let at = k * NOTE;
+        if is_timed(&part[at..at + NOTE]) {
+            set_tuplet(&mut part[at..at + NOTE], actual, normal);
         }
     }
 }
@@ -146,7 +139,8 @@ fn fermata(part: &mut [i32], count: usize) -> Result<(), NoRoom>
     requires room { count * NOTE ≤ length part.old }
     requires some { 0 < count }
     requires fits { number_at MARKS (last_timed part.old count) < mark_limit }
-    ensures full { IsErr result ↔ (mark_capacity ≤ number_at MARK_COUNT (last_timed part.old count)) }
+    ensures full { IsErr result ↔
+        (mark_capacity ≤ number_at MARK_COUNT (last_timed part.old count)) }
     ensures err { OnErr result (part.new ≡ part.old) }
     ensures marked { OnOk result (part.new ≡ fermata_in part.old count) }
 {
@@ -162,8 +156,10 @@ impl<'a> Records<'a, NOTE> {
     /// The non-grace records from one on.
     pub fn timed_from(&self, from: usize) -> Timed
         requires { from ≤ self.now.count }
-        ensures count { result.count ≡ timed_count (drop (from * NOTE) self.now.cells.now) (self.now.count - from) }
-        ensures last { result.last ≡ last_non_grace (drop (from * NOTE) self.now.cells.now) (self.now.count - from) }
+        ensures count { result.count ≡
+            timed_count (drop (from * NOTE) self.now.cells.now) (self.now.count - from) }
+        ensures last { result.last ≡
+            last_non_grace (drop (from * NOTE) self.now.cells.now) (self.now.count - from) }
     {
         timed_in(&self.cells[from * NOTE..], self.count - from)
     }
@@ -185,8 +181,8 @@ impl<'a> Records<'a, NOTE> {
         requires { from ≤ self.old.count }
         ensures same_cells { self.new.cells.ghost_name ≡ self.old.cells.ghost_name }
         ensures tupled { self.new.cells.now ≡
-            on_part NOTE from (λ part. tupled actual normal part
-            (self.old.count - from)) self.old.cells.now }
+            on_part NOTE from (λ part. tupled actual normal part (self.old.count - from))
+            self.old.cells.now }
         ensures count { self.new.count ≡ self.old.count }
     {
         tuplet(
@@ -207,8 +203,8 @@ impl<'a> Records<'a, NOTE> {
             (last_timed (drop (from * NOTE) self.old.cells.now) (self.old.count - from))) }
         ensures err { OnErr result (self.new.cells.now ≡ self.old.cells.now) }
         ensures marked { OnOk result (self.new.cells.now ≡
-            on_part NOTE from (λ part. fermata_in part
-            (self.old.count - from)) self.old.cells.now) }
+            on_part NOTE from (λ part. fermata_in part (self.old.count - from))
+            self.old.cells.now) }
         ensures count { self.new.count ≡ self.old.count }
     {
         fermata(&mut self.cells[from * NOTE..], self.count - from)

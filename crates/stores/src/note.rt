@@ -1,11 +1,13 @@
 // Note records: opened, one more pitch, a tie's start, one more mark.
-ghost use Rattle.std.specs.Prelude.{◌≡◌, ◌+◌, ◌-◌, ◌*◌, ◌≤◌, ◌<◌, ◌↔◌, false, [], ◌∷◌, length, take, slice_index_or, pos, if◌then◌else◌, nat_le, OnOk, OnErr, IsErr};
+ghost use Rattle.std.specs.Prelude.{◌≡◌, ◌+◌, ◌-◌, ◌*◌, ◌≤◌, ◌<◌, ◌↔◌, false, [], ◌∷◌};
+ghost use Rattle.std.specs.Prelude.{length, take, slice_index_or, pos, if◌then◌else◌};
+ghost use Rattle.std.specs.Prelude.{OnOk, OnErr, IsErr};
 ghost use Rattle.rules.specs.Limits.{first_pitch, pitch_size, pitch_capacity, mark_capacity};
-ghost use Rattle.rules.specs.Rules.{plain};
-ghost use Rattle.rules.specs.Words.{note_words, pitch_words, ties_word, power_of_two};
+ghost use Rattle.rules.specs.Words.{note_words, pitch_words, power_of_two};
 ghost use Rattle.rules.specs.Stored.{natural};
-ghost use Rattle.stores.specs.Cells.{word_limit, written, record_at, with_record, changed, BlankFrom};
-ghost use Rattle.stores.specs.Notes.{kind_number, length_numbers, heading_of, pitch_of, opened, number_at, pitched, tie_started, marked, mark_limit};
+ghost use Rattle.stores.specs.Cells.{word_limit, record_at, with_record, changed, BlankFrom};
+ghost use Rattle.stores.specs.Notes.{kind_number, length_numbers, heading_of, pitch_of, opened};
+ghost use Rattle.stores.specs.Notes.{number_at, pitched, tie_started, marked, mark_limit};
 
 use super::cells::{FIRST_PITCH, MAX_MARKS, MAX_PITCHES, NOTE, NoRoom, PITCH, Records, natural};
 use tokens::cut::Place;
@@ -118,7 +120,8 @@ impl Heading {
         }
     }
 
-    // The words of a new record without pitches, up to where these would begin; a tie may end at it.
+    // The words of a new record without pitches, up to where these would begin; a tie may end at
+    // it.
     fn words(self, ends: bool, bar: u32) -> [i32; FIRST_PITCH]
         requires place { self.place.0 < word_limit }
         requires bar { bar < word_limit }
@@ -269,8 +272,8 @@ impl<'a> Records<'a, NOTE> {
         requires some { 0 < self.old.count }
         requires place { pitch.place.0 < word_limit }
         ensures same_cells { self.new.cells.ghost_name ≡ self.old.cells.ghost_name }
-        ensures full { IsErr result ↔ (pitch_capacity ≤ natural
-            (slice_index_or self.old.cells.now ((self.old.count - 1) * NOTE + PITCH_COUNT) (pos 0))) }
+        ensures full { IsErr result ↔ (pitch_capacity ≤ natural (slice_index_or
+            self.old.cells.now ((self.old.count - 1) * NOTE + PITCH_COUNT) (pos 0))) }
         ensures err { OnErr result (self.new.cells ≡ self.old.cells) }
         ensures pitched { OnOk result (self.new.cells.now ≡
             changed NOTE (pitched (pitch_of pitch)) self.old.cells.now (self.old.count - 1)) }
@@ -299,10 +302,11 @@ impl<'a> Records<'a, NOTE> {
     /// One more mark at the last record.
     pub fn add_mark(&mut self, trill: bool) -> Result<(), NoRoom>
         requires some { 0 < self.old.count }
-        requires fits { number_at MARKS (record_at NOTE self.old.cells.now (self.old.count - 1)) < mark_limit }
+        requires fits { number_at MARKS (record_at NOTE self.old.cells.now (self.old.count - 1))
+            < mark_limit }
         ensures same_cells { self.new.cells.ghost_name ≡ self.old.cells.ghost_name }
-        ensures full { IsErr result ↔ (mark_capacity ≤ natural
-            (slice_index_or self.old.cells.now ((self.old.count - 1) * NOTE + MARK_COUNT) (pos 0))) }
+        ensures full { IsErr result ↔ (mark_capacity ≤ natural (slice_index_or
+            self.old.cells.now ((self.old.count - 1) * NOTE + MARK_COUNT) (pos 0))) }
         ensures err { OnErr result (self.new.cells ≡ self.old.cells) }
         ensures marked { OnOk result (self.new.cells.now ≡
             changed NOTE (marked trill) self.old.cells.now (self.old.count - 1)) }

@@ -10,7 +10,7 @@ use mathlib.Core.List.{List, [], ◌∷◌}
 use borrow.Author.Tests.{eq-eqb, ne_eqb}
 use lib.Dec.{eqb, eqb-zero-suc, eqb-suc-suc}
 use lib.IntN.{ℤ, pos, neg_ℤ}
-use lib.ListN.{length, get_or, drop, drop_of_length-le}
+use lib.ListN.{length, get_or, drop}
 use lib.Seq.{drop-cons}
 use native.Mathlib.Numerals.{add-one}
 use Rattle.rules.specs.Text.{bytes, run_length, has, begins}
@@ -36,17 +36,17 @@ module _ (xs : List ℕ) (s : Option ℤ) (i : ℕ) (h : i < length xs) where
   pub letters_other : is_named s (get_or xs i 0) ≡ false → letters_from s (drop i xs) ≡ letters_from (sign_after s (get_or xs i 0)) (drop (i + 1) xs)
   letters_other e = rw (next_element xs i h, e)
 
--- a letter at place i against the order at place k
-module _ (xs order : List ℕ) (s : Option ℤ) (i k : ℕ) (h : i < length xs) (n : is_named s (get_or xs i 0) ≡ true) where
-  pub order_ends : length order ≤ k → begins (letters_from s (drop i xs)) (drop k order) ≡ false
-  order_ends l = rw (letters_named xs s i h n, drop_of_length-le order l)
+-- a letter at place i against what is left of the order
+module _ (xs left : List ℕ) (s : Option ℤ) (i : ℕ) (h : i < length xs) (n : is_named s (get_or xs i 0) ≡ true) where
+  pub order_ends : left ≡ [] → begins (letters_from s (drop i xs)) left ≡ false
+  order_ends l = rw (letters_named xs s i h n, l)
 
-  pub order_differs : k < length order → (get_or order k 0 ≡ get_or xs i 0 → ⊥) → begins (letters_from s (drop i xs)) (drop k order) ≡ false
-  order_differs l d = rw (letters_named xs s i h n, next_element order k l, ne_eqb (get_or order k 0) (get_or xs i 0) d)
+  module _ (x : ℕ) (rest : List ℕ) (l : left ≡ x ∷ rest) where
+    pub order_differs : (x ≡ get_or xs i 0 → ⊥) → begins (letters_from s (drop i xs)) left ≡ false
+    order_differs d = rw (letters_named xs s i h n, l, ne_eqb x (get_or xs i 0) d)
 
-  pub order_agrees : k < length order → get_or order k 0 ≡ get_or xs i 0
-      → begins (letters_from s (drop i xs)) (drop k order) ≡ begins (letters_from (sign_after s (get_or xs i 0)) (drop (i + 1) xs)) (drop (k + 1) order)
-  order_agrees l e = rw (letters_named xs s i h n, next_element order k l, eq-eqb (get_or order k 0) (get_or xs i 0) e)
+    pub order_agrees : x ≡ get_or xs i 0 → begins (letters_from s (drop i xs)) left ≡ begins (letters_from (sign_after s (get_or xs i 0)) (drop (i + 1) xs)) rest
+    order_agrees e = rw (letters_named xs s i h n, l, eq-eqb x (get_or xs i 0) e)
 
 -- a byte stands in a list where the run of other bytes ends before the list
 pub run_all : (k : ℕ) (xs : List ℕ) → eqb (run_length (λ b. not (eqb b k)) xs) (length xs) ≡ not (has (λ b. eqb b k) xs)

@@ -29,5 +29,9 @@ symbol_number None = 0
 
 -- the meter that is set, if there is one
 abbrev pub meter_in : Option Meter → math.Option rules.Meter
-meter_in (Some m) = math.some (record { numerator = m.numerator; denominator = m.denominator; symbol = symbol_number m.symbol })
+meter_in (Some m) = math.some (record {
+  numerator = m.numerator;
+  denominator = m.denominator;
+  symbol = symbol_number m.symbol;
+})
 meter_in None = math.none

@@ -7,7 +7,12 @@ use Rattle.tokens.specs.declared.cut.Tokens.{Tokens}
 
 -- the token with its place that it is
 abbrev pub item_of : Span → Item
-item_of s = record { place = s.place.0; offset = s.offset.0; size = 1 + length s.value.now; token = token_of s.first s.value.now }
+item_of s = record {
+  place = s.place.0;
+  offset = s.offset.0;
+  size = 1 + length s.value.now;
+  token = token_of s.first s.value.now;
+}
 
 -- the tokens that are left, after those of `before`, the latest first
 abbrev pub items_left : Tokens → List Item → List Item

@@ -1,5 +1,5 @@
 // What the values of clefs, keys and meters say.
-ghost use Rattle.std.specs.Prelude.{◌≡◌, not, ◌&&◌, ◌≤◌, [], ◌∷◌, length, eqb, pos, neg_ℤ};
+ghost use Rattle.std.specs.Prelude.{◌≡◌, not, ◌&&◌, [], ◌∷◌, length, eqb};
 ghost use Rattle.std.proofs.Math.Option.{none};
 ghost use Rattle.rules.specs.Text.{begins, has};
 ghost use Rattle.rules.specs.Values.{clef_named, is_mensural, clef_of, is_power_of_two};
@@ -171,7 +171,8 @@ impl Sign {
     }
 }
 
-/// What a key's value says: an alteration for each step from C, the fifths, and whether it is standard.
+/// What a key's value says: an alteration for each step from C, the fifths, and whether it is
+/// standard.
 #[derive(Clone, Copy, Debug, PartialEq, Eq)]
 pub struct Key {
     pub alters: [i8; 7],
@@ -238,13 +239,13 @@ fn in_order(value: &[u8], order: &[u8]) -> bool
     ensures { result ≡ begins (letters_from none value.now) order.now }
 {
     let mut sign = None;
-    let mut next = 0;
+    let mut left = order;
     for byte in value {
         if Sign::names(sign, *byte) {
-            if next == order.len() || order[next] != *byte {
-                return false;
+            match left {
+                [next, rest @ ..] if *next == *byte => left = rest,
+                _ => return false,
             }
-            next += 1;
         }
         sign = Sign::after(sign, *byte);
     }

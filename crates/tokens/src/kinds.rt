@@ -1,6 +1,5 @@
 // What a token is.
-ghost use Rattle.std.specs.Prelude.{◌≡◌, ◌+◌, ◌≤◌, ◌<◌, ◌∷◌, length, IsTrue};
-ghost use Rattle.rules.specs.Limits.{whole_bar_limit};
+ghost use Rattle.std.specs.Prelude.{◌≡◌, IsTrue};
 ghost use Rattle.rules.specs.Tokens.{token_of};
 ghost use Rattle.tokens.specs.Whole.{is_whole};
 ghost use Rattle.tokens.specs.Kinds.{token_in};

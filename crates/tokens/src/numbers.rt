@@ -1,6 +1,6 @@
 // Numbers: digits up to a limit.
-ghost use Rattle.std.specs.Prelude.{◌≡◌, ◌≤◌, ◌<◌, IfSome};
-ghost use Rattle.rules.specs.Limits.{whole_bar_limit, count_limit};
+ghost use Rattle.std.specs.Prelude.{◌≡◌, ◌≤◌, IfSome};
+ghost use Rattle.rules.specs.Limits.{whole_bar_limit};
 ghost use Rattle.rules.specs.Values.{number_to, count_of, whole_bars_of};
 ghost use Rattle.tokens.specs.Numbers.{number_in};
 
