@@ -1,5 +1,4 @@
 // What the functions answer, in the form that C has: a number, 0 or a refusal's, and counts.
-ghost use Rattle.std.specs.Prelude.{◌≡◌};
 
 use cards::error::CardError;
 use cards::read::CardCounts;

@@ -1,7 +1,6 @@
 -- Whole-bar rests one after the other.
 use Rattle.std.specs.Prelude.{ℕ, zero, suc, ◌+◌, ◌-◌, ◌<◌, ◌≤◌, ◌≡◌, refl, Ok, Err}
-use Rattle.std.proofs.Common.{arith, sym}
-use Rattle.std.proofs.Math.Nat.{suc-add}
+use Rattle.std.proofs.Common.{arith}
 use Rattle.view.specs.declared.refusal.Refusal.{Refusal}
 use Rattle.view.specs.View.{View}
 use Rattle.view.specs.Steps.{after_barline, after_whole_bar, after_whole_bars}

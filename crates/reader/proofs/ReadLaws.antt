@@ -18,13 +18,13 @@ use Rattle.rules.specs.Records.{◌or◌, is_some, given, Diagnostic, notes_of}
 use Rattle.rules.specs.Rules.{Attributes, state_after, bars_at_end}
 use Rattle.rules.specs.Fields.{fields_of, fields_diagnosed, data_of}
 use Rattle.rules.specs.Diagnostics.{data_diagnosed}
-use Rattle.rules.specs.Refusals.{LentRecords, Refusal, refusal, first_failing, text_refusal, tokens_refusal, end_refusal, data_refusal, refusal_of}
+use Rattle.rules.specs.Refusals.{LentRecords, Refusal, refusal, first_failing, tokens_refusal, end_refusal, data_refusal, refusal_of}
 use Rattle.rules.specs.Words.{zeros, padded, key_words, meter_words, note_cells, bar_cells, stored_diagnostics, diagnostic_cells}
 use Rattle.rules.specs.Reading.{Lent, Reading, lent_records, accepted, refused, reading}
 use Rattle.rules.specs.Agreement.{Agrees}
 use Rattle.theorems.proofs.Agrees.{agrees-of}
 use Rattle.stores.specs.declared.diagnostic.Diagnostic as stores
-use Rattle.stores.specs.Diagnostics.{blanks, lent_of, diagnosed, count_after, count_after_all, list_after_all}
+use Rattle.stores.specs.Diagnostics.{blanks, lent_of, diagnosed, count_after_all, list_after_all}
 use Rattle.stores.specs.Cells.{written, with_record}
 use Rattle.stores.specs.Bars.{BarNumbers, bar_numbers}
 use Rattle.view.specs.declared.refusal.Stop.{Stop}

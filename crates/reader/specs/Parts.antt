@@ -1,5 +1,5 @@
 -- What the code's values are in the rules' words. Assumes nothing.
-use Rattle.std.specs.Prelude.{ℕ, ◌≡◌, Bool, false, ℤ, Option, Some, None}
+use Rattle.std.specs.Prelude.{◌≡◌, Bool, false, ℤ, Option, Some, None}
 use Rattle.std.proofs.Math.Option as math
 use Rattle.rules.specs.Rules as rules
 use Rattle.tokens.specs.declared.rhythm.Accidental.{Accidental}

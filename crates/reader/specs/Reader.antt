@@ -1,5 +1,5 @@
 -- The reader as a view, and what its steps leave alone. Assumes nothing.
-use Rattle.std.specs.Prelude.{ℕ, ◌≡◌, List, ℤ, length}
+use Rattle.std.specs.Prelude.{◌≡◌, List, ℤ}
 use Rattle.tokens.specs.Attributes.{clef_in, meter_in}
 use Rattle.tokens.specs.Rhythm.{all_lengths, lengths_left}
 use Rattle.tokens.specs.Steps.{edge_number}

@@ -46,7 +46,8 @@ impl<'s, 't, 'n, 'b, 'l, 'd> Reader<'s, 't, 'n, 'b, 'l, 'd> {
         ensures notes { self.new.notes.now ≡ self.old.notes.now }
         ensures few { OnOk result (self.new.bars.now.count ≤ self.new.notes.now.count) }
         ensures stored { (figure : List ℤ) → MatchResult result
-            (λ _. stored_bar (edge_number right) (view_of self.old figure) ≡ Ok (view_of self.new figure))
+            (λ _. stored_bar (edge_number right) (view_of self.old figure)
+            ≡ Ok (view_of self.new figure))
             (λ e. stored_bar (edge_number right) (view_of self.old figure) ≡ Err e) }
     {
         if !self.has_note() {

@@ -51,10 +51,12 @@ impl<'t> Fields<'t> {
     /// A field sets an attribute or the data, by its key; another key is remarked.
     fn set(&mut self, number: Line, key: FieldKey, value: Part<'t>, diagnostics: &mut Diagnostics)
         requires { number.0 < word_limit }
-        ensures fields { fields_in self.new ≡ field_set key (part_of value.entry) (fields_in self.old) }
+        ensures fields { fields_in self.new ≡
+            field_set key (part_of value.entry) (fields_in self.old) }
         ensures left { self.new.attributes.left ≡ self.old.attributes.left }
         ensures same { diagnostics.new.list.ghost_name ≡ diagnostics.old.list.ghost_name }
-        ensures list { diagnostics.new.list.now ≡ list_after_all diagnostics.old.list.now diagnostics.old.count
+        ensures list { diagnostics.new.list.now ≡
+            list_after_all diagnostics.old.list.now diagnostics.old.count
             (field_remarks key number.0 (part_of value.entry)) }
         ensures count { diagnostics.new.count ≡ count_after_all diagnostics.old.count
             (field_remarks key number.0 (part_of value.entry)) }
@@ -90,7 +92,8 @@ impl<'t> Fields<'t> {
         ensures fields { fields_in self.new ≡ line_next (line_of line.entry) (fields_in self.old) }
         ensures left { self.new.attributes.left ≡ self.old.attributes.left }
         ensures same { diagnostics.new.list.ghost_name ≡ diagnostics.old.list.ghost_name }
-        ensures list { diagnostics.new.list.now ≡ list_after_all diagnostics.old.list.now diagnostics.old.count
+        ensures list { diagnostics.new.list.now ≡
+            list_after_all diagnostics.old.list.now diagnostics.old.count
             (line_diagnosed (line_of line.entry)) }
         ensures count { diagnostics.new.count ≡ count_after_all diagnostics.old.count
             (line_diagnosed (line_of line.entry)) }
@@ -133,7 +136,8 @@ fn read_lines<'t>(text: &'t [u8], diagnostics: &mut Diagnostics) -> Fields<'t>
     ensures fields { fields_in result ≡ fields_after (lines_of text.entry.now) }
     ensures left { edge_number result.attributes.left ≡ 0 }
     ensures same { diagnostics.new.list.ghost_name ≡ diagnostics.old.list.ghost_name }
-    ensures list { diagnostics.new.list.now ≡ list_after_all diagnostics.old.list.now diagnostics.old.count
+    ensures list { diagnostics.new.list.now ≡
+        list_after_all diagnostics.old.list.now diagnostics.old.count
         (lines_diagnosed (lines_of text.entry.now)) }
     ensures count { diagnostics.new.count ≡ count_after_all diagnostics.old.count
         (lines_diagnosed (lines_of text.entry.now)) }
@@ -152,7 +156,8 @@ pub fn fields_of<'t>(text: &'t [u8], diagnostics: &mut Diagnostics) -> Fields<'t
     ensures fields { fields_in result ≡ fields_of text.entry.now }
     ensures left { edge_number result.attributes.left ≡ 0 }
     ensures same { diagnostics.new.list.ghost_name ≡ diagnostics.old.list.ghost_name }
-    ensures list { diagnostics.new.list.now ≡ list_after_all diagnostics.old.list.now diagnostics.old.count
+    ensures list { diagnostics.new.list.now ≡
+        list_after_all diagnostics.old.list.now diagnostics.old.count
         (fields_diagnosed text.entry.now) }
     ensures count { diagnostics.new.count ≡ count_after_all diagnostics.old.count
         (fields_diagnosed text.entry.now) }

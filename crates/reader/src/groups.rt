@@ -12,7 +12,7 @@ ghost use Rattle.std.proofs.Math.Option.{some};
 ghost use Rattle.view.specs.Steps.{after_beam_open, after_beam_close, after_group_open, after_group_count, after_group_close, after_closing};
 
 use super::remark::{after_first, all_of_it};
-use super::state::{Group, Start};
+use super::state::Group;
 use super::walk::Reader;
 use stores::cells::NoRoom;
 use stores::diagnostic::{At, Remark, Value};

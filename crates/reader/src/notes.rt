@@ -1,11 +1,10 @@
 // Letters and rests.
-ghost use Rattle.std.specs.Prelude.{◌≡◌, ◌<◌, true, if◌then◌else◌, Ok, Err, MatchResult, OnOk, List, [], ℤ, pos};
+ghost use Rattle.std.specs.Prelude.{◌≡◌, ◌<◌, true, if◌then◌else◌, Ok, Err, MatchResult, OnOk, List, [], ℤ};
 ghost use Rattle.rules.specs.Rules.{heading, kind_of, length_of};
 ghost use Rattle.tokens.specs.Numbers.{number_in};
 ghost use Rattle.tokens.specs.Spans.{item_of};
 ghost use Rattle.tokens.specs.Steps.{step_number};
 ghost use Rattle.tokens.specs.Rhythm.{length_in, next_length, all_lengths, lengths_left, lengths_after};
-ghost use Rattle.stores.specs.Bars.{fifths_in};
 ghost use Rattle.stores.specs.Cells.{word_limit};
 ghost use Rattle.stores.specs.Notes.{pitch_of, heading_of};
 ghost use Rattle.reader.specs.Parts.{grace_in};
@@ -44,7 +43,8 @@ fn take_length(lengths: &mut Cycle, grace: bool) -> Length
 impl Voice {
     // An opened note's kind and length, `next` being the next one in turn.
     fn heading(&self, place: Place, next: Length) -> Heading
-        ensures { heading_of result ≡ heading place.0 (kind_of (grace_in self.now.grace) self.now.group)
+        ensures { heading_of result ≡
+            heading place.0 (kind_of (grace_in self.now.grace) self.now.group)
             (length_of (grace_in self.now.grace) (length_in next)) }
     {
         let (kind, length) = match (self.grace, self.group) {
@@ -63,7 +63,8 @@ impl Voice {
 impl<'s, 't, 'n, 'b, 'l, 'd> Reader<'s, 't, 'n, 'b, 'l, 'd> {
     // A letter's pitch: the accidental that waits, else that of the bar, else that of the key.
     fn pitch(&self, place: Place, step: Step) -> Pitch
-        ensures { pitch_of result ≡ steps.pitch_of place.0 (step_number step) (view_of self.now []) }
+        ensures { pitch_of result ≡
+            steps.pitch_of place.0 (step_number step) (view_of self.now []) }
     {
         let octave = self.state.voice.octave;
         let alter = match self.state.voice.accidental {
@@ -129,7 +130,8 @@ impl<'s, 't, 'n, 'b, 'l, 'd> Reader<'s, 't, 'n, 'b, 'l, 'd> {
         requires { Sound (view_of self.old []) }
         ensures same { SameBuffers self.old self.new }
         ensures rest { (figure : List ℤ) → MatchResult result
-            (λ _. after_rest span.entry.place.0 (view_of self.old figure) ≡ Ok (view_of self.new figure))
+            (λ _. after_rest span.entry.place.0 (view_of self.old figure)
+            ≡ Ok (view_of self.new figure))
             (λ e. after_rest span.entry.place.0 (view_of self.old figure) ≡ Err e) }
     {
         if self.notes.count == State::MAX_NOTES {

@@ -13,7 +13,8 @@ ghost use Rattle.view.specs.Run.{IsFresh, attributes_in, lent_in};
 ghost use Rattle.view.specs.End.{after_end};
 ghost use Rattle.reader.specs.Fields as fields;
 ghost use Rattle.reader.specs.Reader.{view_of, SameBuffers};
-ghost use Rattle.reader.specs.Answer.{lent_words, answer, entry_refusal, Counted, IsEmpty, IsBlank, Reads, ReadsData};
+ghost use Rattle.reader.specs.Answer.{lent_words, answer, entry_refusal, Counted};
+ghost use Rattle.reader.specs.Answer.{IsEmpty, IsBlank, Reads, ReadsData};
 
 use super::accidentals::Accidentals;
 use super::fields::fields_of;
@@ -64,8 +65,10 @@ impl<'s, 't, 'n, 'b, 'l, 'd> Reader<'s, 't, 'n, 'b, 'l, 'd> {
         requires { Sound (view_of self.old []) }
         ensures same { SameBuffers self.old self.new }
         ensures finished { (figure : List ℤ) → MatchResult result
-            (λ _. after_end (characters_in «data».entry.bytes.now) (view_of self.old figure) ≡ Ok (view_of self.new figure))
-            (λ stop. after_end (characters_in «data».entry.bytes.now) (view_of self.old figure) ≡ Err (stop_in stop)) }
+            (λ _. after_end (characters_in «data».entry.bytes.now) (view_of self.old figure)
+            ≡ Ok (view_of self.new figure))
+            (λ stop. after_end (characters_in «data».entry.bytes.now) (view_of self.old figure)
+            ≡ Err (stop_in stop)) }
         ensures counts { IfOk result (λ counts. Counted counts (view_of self.new [])) }
     {
         let behind = Place(count_characters(data.bytes) as u32 + 1);
@@ -91,7 +94,8 @@ impl<'s, 't, 'n, 'b, 'l, 'd> Reader<'s, 't, 'n, 'b, 'l, 'd> {
         ensures read { ReadsData (lent_in (view_of self.old figure.old))
             (attributes_in (view_of self.old figure.old)) (part_of «data».entry)
             self.old.diagnostics.now.list.now self.old.diagnostics.now.count
-            result self.new.notes.now.cells.now self.new.bars.now.cells.now self.new.diagnostics.now.list.now }
+            result self.new.notes.now.cells.now self.new.bars.now.cells.now
+            self.new.diagnostics.now.list.now }
     {
         self.walk(data, figure)?;
         self.finish(data)
@@ -156,7 +160,8 @@ fn read_text(
     read_data(fields.attributes, data, notes, bars, figure, diagnostics)
 }
 
-/// Reads a text of any bytes and any length into lent cells of any length: what is stored, or one refusal after which every lent cell is 0.
+/// Reads a text of any bytes and any length into lent cells of any length: how much is stored, or
+/// one refusal, after which every lent cell is 0.
 pub fn read(
     text: &[u8],
     notes: &mut [i32],

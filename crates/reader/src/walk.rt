@@ -20,6 +20,8 @@ use tokens::kinds::{Figure, Marking, Token};
 use view::refusal::{Refusal, Stop};
 
 /// A reading in lent cells: the state, the open bar's accidentals, the records stored so far.
+// It lends its stores, for two lifetimes: of stores that it owns, or of three lent for one, its maker
+// learns nothing at the end (both tried).
 #[derive(Drop)]
 pub struct Reader<'s, 't, 'n, 'b, 'l, 'd> {
     pub state: State<'d>,
@@ -35,9 +37,11 @@ impl<'s, 't, 'n, 'b, 'l, 'd> Reader<'s, 't, 'n, 'b, 'l, 'd> {
         requires { IsReady (view_of self.old figure.old) }
         ensures same { SameBuffers self.old self.new }
         ensures token { MatchResult result
-            (λ _. after_token (item_of span.entry) (token_in token.entry) (view_of self.old figure.old)
+            (λ _.
+            after_token (item_of span.entry) (token_in token.entry) (view_of self.old figure.old)
             ≡ Ok (view_of self.new figure.new))
-            (λ e. after_token (item_of span.entry) (token_in token.entry) (view_of self.old figure.old)
+            (λ e.
+            after_token (item_of span.entry) (token_in token.entry) (view_of self.old figure.old)
             ≡ Err e) }
     {
         match token {
