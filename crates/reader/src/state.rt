@@ -5,7 +5,7 @@ ghost use Rattle.tokens.specs.Rhythm.{all_lengths, lengths_left};
 ghost use Rattle.rules.specs.Rules.{is_grace};
 ghost use Rattle.reader.specs.Parts.{grace_in, IsFresh, no_groups};
 
-use stores::cells::{MAX_MARKS, MAX_PITCHES};
+use stores::cells::{MAX_MARKS, MAX_NOTES, MAX_PITCHES};
 use stores::diagnostic::MAX_DIAGNOSTICS;
 use tokens::attributes::{Clef, Key, Meter};
 use tokens::kinds::Grace;
@@ -84,9 +84,9 @@ impl<'d> State<'d> {
 
     pub const FLATS: [u8; 7] = Key::FLATS;
 
-    pub const MAX_INPUT_BYTES: usize = 65535;
+    pub const MAX_INPUT_BYTES: usize = 65_535;
 
-    pub const MAX_NOTES: usize = 100000;
+    pub const MAX_NOTES: usize = MAX_NOTES;
 
     pub const MAX_DIAGNOSTICS: usize = MAX_DIAGNOSTICS;
 

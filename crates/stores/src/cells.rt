@@ -5,6 +5,9 @@ ghost use Rattle.rules.specs.Words.{zeros};
 ghost use Rattle.rules.specs.Stored.{natural};
 ghost use Rattle.stores.specs.Cells.{record_at, with_record, BlankFrom};
 
+/// A reading or a card has at most so many notes.
+pub const MAX_NOTES: usize = 100_000;
+
 /// A note has at most so many pitches.
 pub const MAX_PITCHES: usize = 8;
 
