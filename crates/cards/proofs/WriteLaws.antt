@@ -46,6 +46,13 @@ parts_taken f size (suc count) l =
     let e : suc count * size ≡ size + count * size = rw suc-mul (omega arith) in
     rw (e, take-take size (size + count * size) l (omega arith), drop-take size (count * size) l, parts_taken f size count (drop size l))
 
+-- the first `count` notes' words are those that count
+pub front_notes : {A : Type 0} (f : List ℤ → A) (count : ℕ) (l : List ℤ) → count * note_size ≤ length l
+    → parts (λ v. f (take note_size v)) note_size (length (take (count * note_size) l) / note_size) (take (count * note_size) l) ≡ parts (λ v. f (take note_size v)) note_size count l
+front_notes f count l h =
+    let e : length (take (count * note_size) l) / note_size ≡ count = omega (arith, length-take-le (count * note_size) l h) in
+    rw (e, parts_taken f note_size count l)
+
 -- ---- notes
 
 -- what is put of the notes from here on is what is put of all
@@ -80,15 +87,6 @@ module _ (form : Form) (number first : ℕ) (notes : List ℤ) where
       → such_first form number first notes head ≡ (such_head_words first head && (ltb 0 (number_at head 1) && (leb (number_at head 1 * note_size) (length notes) && every (such_words form number) (note_records (number_at head 1) notes))))
   unfolding such_first holds
   first_is head size = rw (take_all bar_size head (omega arith), and-true)
-
-  -- at least one note, and words for all
-  pub first_room : (head : List ℤ) → length head ≡ bar_size → such_first form number first notes head ≡ true → (0 < number_at head 1) × (number_at head 1 * note_size ≤ length notes)
-  first_room head size h =
-      let c = number_at head 1 in
-      let t = and_parts (such_head_words first head) _ (sym (first_is head size) ∙ h) in
-      let u = and_parts (ltb 0 c) _ t.1 in
-      let v = and_parts (leb (c * note_size) (length notes)) _ u.1 in
-      (ltb-true 0 c u.0, leb-true (c * note_size) (length notes) v.0)
 
 -- ---- bars
 
@@ -126,8 +124,10 @@ module _ (form : Form) (number first : ℕ) (notes : List ℤ) where
     bytes_more = rw (more, cut, take_at x b bar_size long, drop_at x b bar_size long, length-parts (λ (v : List ℤ). note_of (take note_size v)) note_size c notes)
 
     pub bars_one : such_first form number first notes x ≡ true → {s t : CardWriter} → Wrote (bytes_of_bar form notes x) s t
-        → (r : Result Unit CardError) (u : CardWriter) → WritesBars form (number + 1) (first + c) (drop (c * note_size) notes) b t r u → WritesBars form number first notes w s r u
-    bars_one e p r u n =
+        → {count : ℕ} {later : List ℤ} → count ≡ c → later ≡ drop (count * note_size) notes
+        → (r : Result Unit CardError) (u : CardWriter) → WritesBars form (number + 1) (first + count) later b t r u → WritesBars form number first notes w s r u
+    bars_one e p f g r u n' =
+        let n = rw (g, f) at n' in
         let all : such_bars form (length w / bar_size) number first notes w ≡ such_bars form (length b / bar_size) (number + 1) (first + c) (drop (c * note_size) notes) b = such_more ∙ rw e in
         record { same = same_then (same_wrote p) n.same; wrote = MatchResult-weaker r n.wrote (λ _ m. (all ∙ m.0, wrote_as (sym bytes_more) (wrote_then p m.1))) (λ _ m. all ∙ m) }
 

@@ -1,5 +1,5 @@
 -- What a writer has put of the records in lent words. Assumes nothing.
-use Rattle.std.specs.Prelude.{ℕ, ◌≡◌, ◌/◌, ◌<◌, ◌≤◌, true, false, List, ◌++◌, ℤ, length, take, Result, Ok, Err, MatchResult}
+use Rattle.std.specs.Prelude.{ℕ, ◌≡◌, ◌*◌, ◌/◌, ◌<◌, ◌≤◌, true, false, List, ◌++◌, ℤ, length, take, Result, Ok, Err, MatchResult}
 use Rattle.rules.specs.Limits.{note_size, bar_size}
 use Rattle.cards.specs.Fields.{each, every}
 use Rattle.cards.specs.Card.{Bar, Form, note_bytes, head_bytes, bar_bytes, card_of}
@@ -28,12 +28,18 @@ pub record WritesNotes (form : Form) (bar : ℕ) (words : List ℤ) (s : CardWri
 abbrev pub bytes_of_bar : Form → List ℤ → List ℤ → List ℕ
 bytes_of_bar form notes words = head_bytes (number_at words 1) (head_of words) ++ each (note_bytes form) (notes_of (number_at words 1) notes)
 
--- such a bar, so many notes, and its bytes were put if they fit; or it is no such bar
+-- such a bar, so many notes at the front, and its bytes were put if they fit
+pub record PutsBar (form : Form) (number first : ℕ) (notes words : List ℤ) (s t : CardWriter) (count : ℕ) : Type 0 where
+  pub counted : count ≡ number_at words 1
+  pub some : 0 < count
+  pub room : count * note_size ≤ length notes
+  pub such : such_first form number first notes words ≡ true
+  pub put : Wrote (bytes_of_bar form notes words) s t
+
+-- or it is no such bar
 pub record WritesBar (form : Form) (number first : ℕ) (notes words : List ℤ) (s : CardWriter) (r : Result ℕ CardError) (t : CardWriter) : Type 0 where
   pub same : SameCard s t
-  pub wrote : MatchResult r
-      (λ count. (count ≡ number_at words 1) × (such_first form number first notes words ≡ true) × Wrote (bytes_of_bar form notes words) s t)
-      (λ _. such_first form number first notes words ≡ false)
+  pub wrote : MatchResult r (PutsBar form number first notes words s t) (λ _. such_first form number first notes words ≡ false)
 
 -- such bars from this number and first note on, and their bytes were put if they fit; or they are no such bars
 pub record WritesBars (form : Form) (number first : ℕ) (notes bars : List ℤ) (s : CardWriter) (r : Result Unit CardError) (t : CardWriter) : Type 0 where
