@@ -15,3 +15,5 @@ pub mod JudgeLaws
 pub mod ValueLaws
 pub mod BitLaws
 pub mod WriteLaws
+pub mod SizeLaws
+pub mod AnswerLaws

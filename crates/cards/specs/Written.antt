@@ -57,7 +57,7 @@ pub record WritesCard (form : Form) (notes bars : List ℤ) (s : CardWriter) (r 
   pub same : SameCard s t
   pub wrote : MatchResult r
       (λ _. (such_cells form notes bars ≡ true) × Wrote (card_of form (records_in notes bars)) s t)
-      (λ e. (e ≡ Invalid) × (such_cells form notes bars ≡ false))
+      (λ _. such_cells form notes bars ≡ false)
 
 -- 14 where they are no such records, and 15 where their card doesn't fit
 abbrev pub Refuses : Form → List ℤ → List ℤ → ℕ → CardError → Type 0

@@ -86,7 +86,9 @@ fn put_card<W: PlaceWidth>(notes: &[i32], bars: &[i32], card: &mut [u8]) -> Resu
         at: 0,
         full: false,
     };
-    writer.card::<W>(notes, bars)?;
+    let Ok(()) = writer.card::<W>(notes, bars) else {
+        return Err(CardError::Invalid);
+    };
     if writer.full {
         return Err(CardError::NoRoom);
     }
@@ -105,10 +107,6 @@ pub fn write_card<W: PlaceWidth>(
     ensures { Written W.form notes.now bars.now (length card.old) (written result card.new) }
 {
     let result = put_card::<W>(notes, bars, card);
-    let length = match result {
-        Ok(length) => length,
-        Err(_) => 0,
-    };
-    card[length as usize..].fill(0);
+    card[result.unwrap_or(0) as usize..].fill(0);
     result
 }

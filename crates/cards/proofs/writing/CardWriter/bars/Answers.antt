@@ -1,4 +1,4 @@
-use Rattle.std.proofs.Common.{arith, ◌∙◌, ◌*◌}
+use Rattle.std.proofs.Common.{arith, sym, ◌∙◌, ◌*◌}
 use Rattle.std.specs.Slice.Iter.{chunks_exact_rest}
 use Rattle.std.proofs.lemmas.List.{take_rest, length-drop}
 use Rattle.std.proofs.lemmas.Result.{MatchResult-from_err}
@@ -30,10 +30,10 @@ pub returns-then-not-is_empty : goal.returns-then-not-is_empty
 returns-then-not-is_empty g c =
     let l = c.loop-words in
     let s = c.in-None.ensures.steps in
-    l.invariant.left _ l.self (bars_left g.W.PlaceWidth.form l.number l.first l.rest.now (chunks_exact_rest l.words-iterator) l.self _ (omega (arith, s.1.0, l.invariant.size)) ?)
+    l.invariant.left _ l.self (bars_left g.W.PlaceWidth.form l.number l.first l.rest.now (chunks_exact_rest l.words-iterator) l.self _ (omega (arith, s.1.0, l.invariant.size)) (sym c.if-not-is_empty.ensures))
 
 pub returns : goal.returns
 returns g c =
     let l = c.loop-words in
     let s = c.in-None.ensures.steps in
-    l.invariant.left _ l.self (bars_end g.W.PlaceWidth.form l.number l.first l.rest.now (chunks_exact_rest l.words-iterator) l.self (omega (arith, s.1.0, l.invariant.size)) ?)
+    l.invariant.left _ l.self (bars_end g.W.PlaceWidth.form l.number l.first l.rest.now (chunks_exact_rest l.words-iterator) l.self (omega (arith, s.1.0, l.invariant.size)) (sym c.if-not-is_empty.ensures))
