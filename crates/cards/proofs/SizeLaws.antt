@@ -27,7 +27,7 @@ under_most : (b : Bool) (xs : List ℕ) → length (under b xs) ≤ length xs
 under_most true xs = omega arith
 under_most false xs = omega arith
 
-total : List (List ℕ) → ℕ
+abbrev total : List (List ℕ) → ℕ
 total [] = 0
 total (field ∷ fields) = length field + total fields
 

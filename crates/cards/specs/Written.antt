@@ -53,7 +53,7 @@ abbrev pub records_in : List ℤ → List ℤ → List Bar
 records_in notes bars = bars_of (length bars / bar_size) notes bars
 
 -- such records, and their card was put if it fits; or they are no such records
-pub record WritesCard (form : Form) (notes bars : List ℤ) (s : CardWriter) (r : Result Unit CardError) (t : CardWriter) : Type 0 where
+pub record WritesRecords (form : Form) (notes bars : List ℤ) (s : CardWriter) (r : Result Unit CardError) (t : CardWriter) : Type 0 where
   pub same : SameCard s t
   pub wrote : MatchResult r
       (λ _. (such_cells form notes bars ≡ true) × Wrote (card_of form (records_in notes bars)) s t)

@@ -1,8 +1,8 @@
 // A card written from the words of its records.
-ghost use Rattle.std.specs.Prelude.{◌≡◌, ◌≤◌, ◌*◌, length};
+ghost use Rattle.std.specs.Prelude.{◌≡◌, ◌≤◌, ◌*◌, false, length};
 ghost use Rattle.rules.specs.Limits.{bar_size, note_size, note_limit};
 ghost use Rattle.cards.specs.Answers.{Written};
-ghost use Rattle.cards.specs.Written.{WritesBar, WritesBars, WritesCard, Puts, written};
+ghost use Rattle.cards.specs.Written.{WritesBar, WritesBars, WritesRecords, Puts, written};
 
 use super::error::CardError;
 use super::heads::Head;
@@ -61,8 +61,8 @@ impl<'a> CardWriter<'a> {
     }
 
     // The first byte, the bar count and the bars, each of which has a note.
-    fn card<W: PlaceWidth>(&mut self, notes: &[i32], bars: &[i32]) -> Result<(), CardError>
-        ensures { WritesCard W.form notes.now bars.now self.old result self.new }
+    fn records<W: PlaceWidth>(&mut self, notes: &[i32], bars: &[i32]) -> Result<(), CardError>
+        ensures { WritesRecords W.form notes.now bars.now self.old result self.new }
     {
         let count = bars.len() / BAR;
         if count == 0 || bars.len() != count * BAR {
@@ -75,9 +75,25 @@ impl<'a> CardWriter<'a> {
         self.four(count as u32);
         self.bars::<W>(notes, bars)
     }
+
+    // A whole card; its length.
+    fn card<W: PlaceWidth>(&mut self, notes: &[i32], bars: &[i32]) -> Result<u32, CardError>
+        requires front { self.old.at ≡ 0 }
+        requires room { self.old.full ≡ false }
+        ensures same_card { self.new.card.ghost_name ≡ self.old.card.ghost_name }
+        ensures puts { Puts W.form notes.now bars.now self.old.card.now result self.new.card.now }
+    {
+        let Ok(()) = self.records::<W>(notes, bars) else {
+            return Err(CardError::Invalid);
+        };
+        if self.full {
+            return Err(CardError::NoRoom);
+        }
+        Ok(self.at as u32)
+    }
 }
 
-// The card at the front of the lent bytes, and its length.
+// The card at the front of the lent bytes; its length.
 fn put_card<W: PlaceWidth>(notes: &[i32], bars: &[i32], card: &mut [u8]) -> Result<u32, CardError>
     ensures { Puts W.form notes.now bars.now card.old result card.new }
 {
@@ -86,13 +102,7 @@ fn put_card<W: PlaceWidth>(notes: &[i32], bars: &[i32], card: &mut [u8]) -> Resu
         at: 0,
         full: false,
     };
-    let Ok(()) = writer.card::<W>(notes, bars) else {
-        return Err(CardError::Invalid);
-    };
-    if writer.full {
-        return Err(CardError::NoRoom);
-    }
-    Ok(writer.at as u32)
+    writer.card::<W>(notes, bars)
 }
 
 /// Writes the card of the records that these words are; its length in bytes.
