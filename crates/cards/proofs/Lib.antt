@@ -14,3 +14,6 @@ pub mod NumberLaws
 pub mod JudgeLaws
 pub mod ValueLaws
 pub mod BitLaws
+pub mod WriteLaws
+pub mod SizeLaws
+pub mod AnswerLaws

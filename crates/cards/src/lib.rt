@@ -8,4 +8,5 @@ pub mod numbers;
 pub mod reading;
 pub mod width;
 pub mod words;
+pub mod write;
 pub mod writing;

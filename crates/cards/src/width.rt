@@ -35,6 +35,8 @@ pub trait PlaceWidth {
     ghost fits: { form.greatest < 256 ^ form.width };
 
     ghost narrow: { form.width ≤ 4 };
+
+    ghost word: { form.greatest < 2147483648 };
 }
 
 /// Places in two bytes: cards of form 1.
@@ -46,6 +48,8 @@ impl PlaceWidth for TwoBytes {
     ghost fits = { Prim.search rules };
 
     ghost narrow = { Prim.search rules };
+
+    ghost word = { Prim.search rules };
 
     fn first() -> u8 {
         1

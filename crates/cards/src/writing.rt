@@ -1,8 +1,7 @@
 // A card written front to back, a byte string at a time.
-ghost use Rattle.std.specs.Prelude.{◌≡◌, ◌≤◌, ◌*◌, ◌∷◌, [], true, length};
+ghost use Rattle.std.specs.Prelude.{◌≡◌, ◌≤◌, ◌∷◌, [], true, length};
 ghost use Rattle.std.proofs.Math.Option.{get_or};
 ghost use Rattle.rules.specs.Records.{is_some};
-ghost use Rattle.rules.specs.Limits.{note_size};
 ghost use Rattle.cards.specs.Fields.{number, stands, under, each, every};
 ghost use Rattle.cards.specs.Card.{such_pitch, such_note, such_head, pitch_bytes, note_bytes, head_bytes};
 
@@ -112,18 +111,12 @@ impl<'a> CardWriter<'a> {
         self.counted_pitches::<W>(&note.pitches);
     }
 
-    /// The first `count` notes of these words, all of them of bar `number`.
-    pub fn notes<W: PlaceWidth>(
-        &mut self,
-        words: &[i32],
-        count: usize,
-        number: u32,
-    ) -> Result<(), CardError>
-        requires { count * note_size ≤ length words.now }
-        ensures { WritesNotes W.form number count words.now self.old result self.new }
+    /// The notes of these words, all of them of bar `number`.
+    pub fn notes<W: PlaceWidth>(&mut self, words: &[i32], number: u32) -> Result<(), CardError>
+        ensures { WritesNotes W.form number words.now self.old result self.new }
     {
-        for i in 0..count {
-            let note = Note::of_words::<W>(&words[i * NOTE..i * NOTE + NOTE], number)?;
+        for own in words.chunks_exact(NOTE) {
+            let note = Note::of_words::<W>(own, number)?;
             self.note::<W>(&note);
         }
         Ok(())
@@ -155,7 +148,7 @@ impl<'a> CardWriter<'a> {
 
     // A number in four bytes, the low one first.
     #[tactic(auto, unfolding(crate::specs::Fields::number))]
-    fn four(&mut self, count: u32)
+    pub(crate) fn four(&mut self, count: u32)
         ensures { Wrote (number 4 count) self.old self.new }
     {
         self.append(&count.to_le_bytes());

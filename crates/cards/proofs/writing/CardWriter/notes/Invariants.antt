@@ -1,13 +1,11 @@
-use Rattle.std.proofs.Common.{◌≡◌, true}
-use Rattle.cards.specs.Fields.{each, every}
-use Rattle.cards.specs.Card.{note_bytes}
-use Rattle.cards.specs.Judged.{such_words}
-use Rattle.cards.specs.Records.{note_records, notes_of}
-use Rattle.cards.specs.Writer.{Wrote}
+use Rattle.std.proofs.Common.{◌≡◌}
+use Rattle.std.specs.Slice.Iter.{chunks_exact_rest, chunks_exact_size}
+use Rattle.rules.specs.Limits.{note_size}
+use Rattle.cards.proofs.WriteLaws.{NotesFrom}
 use Rattle.cards.proofs.writing.CardWriter.notes.Given as goal
 
-abbrev pub invariant-loop-i : goal.invariant-loop-i
-invariant-loop-i g l = record {
-  such : every (such_words g.W.PlaceWidth.form l.number) (note_records l.i l.words) ≡ true;
-  wrote : Wrote (each (note_bytes g.W.PlaceWidth.form) (notes_of l.i l.words)) l.initial.self l.self;
+abbrev pub invariant-loop-own : goal.invariant-loop-own
+invariant-loop-own g l = record {
+  size : chunks_exact_size l.own-iterator ≡ note_size;
+  left : NotesFrom g.W.PlaceWidth.form l.number l.words l.initial.self (chunks_exact_rest l.own-iterator) l.self;
 }
