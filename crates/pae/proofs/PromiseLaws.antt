@@ -11,7 +11,13 @@ use Rattle.view.specs.declared.refusal.Stop.{Stop}
 use Rattle.view.specs.Refusals.{refusal_number}
 use Rattle.reader.specs.Answer.{answer}
 use Rattle.reader.specs.declared.read.Counts.{Counts}
-use Rattle.pae.specs.Numbers.{reading_of}
+use Rattle.cards.specs.Card.{Form}
+use Rattle.cards.specs.Answers.{Written, ReadBack}
+use Rattle.cards.specs.Written.{written}
+use Rattle.cards.specs.ReadBack.{read_back}
+use Rattle.cards.specs.declared.error.CardError.{CardError}
+use Rattle.cards.specs.declared.read.CardCounts.{CardCounts}
+use Rattle.pae.specs.Numbers.{reading_of, written_of, read_of}
 use Rattle.pae.specs.Promise.{Promise}
 
 -- a refusal's number isn't 0
@@ -55,3 +61,13 @@ promise text lent (Err stop) notes bars figure diagnostics e a = record {
   diagnostic_cells = ap (λ (x : rules.Reading). x.diagnostic_cells) e;
   agrees = λ h. absurd (numbered stop.refusal h);
 }
+
+-- ---- cards
+
+pub written_promise : (form : Form) (notes bars : List ℤ) (size : ℕ) (result : Result ℕ CardError) (card : List ℕ) → Written form notes bars size (written result card) → Written form notes bars size (record { number = (written_of result).number; length = (written_of result).length; card = card })
+written_promise form notes bars size (Ok n) card w = w
+written_promise form notes bars size (Err e) card w = w
+
+pub read_promise : (form : Form) (card : List ℕ) (note_words bar_words : ℕ) (result : Result CardCounts CardError) (notes bars : List ℤ) → ReadBack form card note_words bar_words (read_back result notes bars) → ReadBack form card note_words bar_words (record { number = (read_of result).number; notes = (read_of result).notes; bars = (read_of result).bars; note_cells = notes; bar_cells = bars })
+read_promise form card note_words bar_words (Ok counts) notes bars r = r
+read_promise form card note_words bar_words (Err e) notes bars r = r

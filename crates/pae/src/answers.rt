@@ -40,3 +40,57 @@ impl From<Result<Counts, Stop>> for Reading {
         }
     }
 }
+
+/// Of a card that is written: 0 or the refusal's number; how many bytes it has.
+#[repr(C)]
+#[derive(Clone, Copy, Debug, PartialEq, Eq)]
+pub struct CardWritten {
+    pub number: u32,
+    pub length: u32,
+}
+
+impl From<Result<u32, CardError>> for CardWritten {
+    ghost use Rattle.pae.specs.Numbers.{SaysWritten};
+
+    ghost from_gives = { SaysWritten };
+
+    fn from(result: Result<u32, CardError>) -> CardWritten {
+        match result {
+            Ok(length) => CardWritten { number: 0, length },
+            Err(error) => CardWritten {
+                number: error.into(),
+                length: 0,
+            },
+        }
+    }
+}
+
+/// Of a card that is read: 0 or the refusal's number; how many notes and bars are stored.
+#[repr(C)]
+#[derive(Clone, Copy, Debug, PartialEq, Eq)]
+pub struct CardRead {
+    pub number: u32,
+    pub notes: u32,
+    pub bars: u32,
+}
+
+impl From<Result<CardCounts, CardError>> for CardRead {
+    ghost use Rattle.pae.specs.Numbers.{SaysRead};
+
+    ghost from_gives = { SaysRead };
+
+    fn from(result: Result<CardCounts, CardError>) -> CardRead {
+        match result {
+            Ok(counts) => CardRead {
+                number: 0,
+                notes: counts.notes,
+                bars: counts.bars,
+            },
+            Err(error) => CardRead {
+                number: error.into(),
+                notes: 0,
+                bars: 0,
+            },
+        }
+    }
+}

@@ -21,7 +21,8 @@ use stores::diagnostic::Diagnostic;
 /// The number that `pae_version` gives.
 const VERSION: u32 = 4;
 
-/// Reads a text of any bytes and any length into lent buffers of any length: a finished reading, or one refusal after which every lent cell is 0.
+/// Reads a text of any bytes and any length into lent buffers of any length: a finished reading, or
+/// one refusal, after which every lent cell is 0.
 #[tactic(auto, using(crate::proofs::PromiseLaws::promise))]
 pub fn pae_read(
     text: &[u8],
@@ -36,7 +37,9 @@ pub fn pae_read(
     read(text, notes, bars, figure, diagnostics).into()
 }
 
-/// Writes the card of note and bar records that are exactly the lent slices: the card's bytes, or one refusal after which every lent byte is 0.
+/// Writes the card of note and bar records that are exactly the lent slices: the card's bytes, or
+/// one refusal, after which every lent byte is 0.
+#[tactic(auto, using(crate::proofs::PromiseLaws::written_promise))]
 pub fn pae_write_card(notes: &[i32], bars: &[i32], card: &mut [u8]) -> CardWritten
     ensures { Written form1 notes.now bars.now (length card.old)
         (record { number = result.number; length = result.length; card = card.new }) }
@@ -44,7 +47,9 @@ pub fn pae_write_card(notes: &[i32], bars: &[i32], card: &mut [u8]) -> CardWritt
     write_card::<TwoBytes>(notes, bars, card).into()
 }
 
-/// Reads a card of any bytes and any length into lent records: the records whose card it is, or one refusal after which every lent cell is 0.
+/// Reads a card of any bytes and any length into lent records: the records whose card it is, or
+/// one refusal, after which every lent cell is 0.
+#[tactic(auto, using(crate::proofs::PromiseLaws::read_promise))]
 pub fn pae_read_card(card: &[u8], notes: &mut [i32], bars: &mut [i32]) -> CardRead
     ensures { ReadBack form1 card.now (length notes.old) (length bars.old)
         (record { number = result.number; notes = result.notes; bars = result.bars;

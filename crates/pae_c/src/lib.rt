@@ -11,7 +11,8 @@ ghost use Rattle.pae.specs.Version.{version};
 use pae::answers::{CardRead, CardWritten, Reading};
 use stores::diagnostic::Diagnostic;
 
-/// Reads a text of any bytes and any length into lent buffers of any length: a finished reading, or one refusal after which every lent cell is 0.
+/// Reads a text of any bytes and any length into lent buffers of any length: a finished reading, or
+/// one refusal, after which every lent cell is 0.
 #[unsafe(no_mangle)]
 pub extern "C" fn pae_read(
     text: &[u8],
@@ -26,7 +27,8 @@ pub extern "C" fn pae_read(
     pae::pae_read(text, notes, bars, figure, diagnostics)
 }
 
-/// Writes the card of note and bar records that are exactly the lent slices: the card's bytes, or one refusal after which every lent byte is 0.
+/// Writes the card of note and bar records that are exactly the lent slices: the card's bytes, or
+/// one refusal, after which every lent byte is 0.
 #[unsafe(no_mangle)]
 pub extern "C" fn pae_write_card(notes: &[i32], bars: &[i32], card: &mut [u8]) -> CardWritten
     ensures { Written form1 notes.now bars.now (length card.old)
@@ -35,7 +37,8 @@ pub extern "C" fn pae_write_card(notes: &[i32], bars: &[i32], card: &mut [u8]) -
     pae::pae_write_card(notes, bars, card)
 }
 
-/// Reads a card of any bytes and any length into lent records: the records whose card it is, or one refusal after which every lent cell is 0.
+/// Reads a card of any bytes and any length into lent records: the records whose card it is, or
+/// one refusal, after which every lent cell is 0.
 #[unsafe(no_mangle)]
 pub extern "C" fn pae_read_card(card: &[u8], notes: &mut [i32], bars: &mut [i32]) -> CardRead
     ensures { ReadBack form1 card.now (length notes.old) (length bars.old)
