@@ -2,11 +2,11 @@
 #![tactic(auto)]
 
 pub mod error;
-pub mod heads;
-pub mod notes;
-pub mod numbers;
-pub mod reading;
+mod heads;
+mod notes;
+mod numbers;
+mod reading;
 pub mod width;
-pub mod words;
+mod words;
 pub mod write;
-pub mod writing;
+mod writing;

@@ -3,7 +3,7 @@ ghost use Rattle.std.specs.Prelude.{◌≡◌, ◌+◌, ◌<◌, ◌≤◌, ◌%
 ghost use Rattle.rules.specs.Characters.{is_formed, continues, character_size, characters_in};
 ghost use Rattle.rules.specs.Characters.{code_point, within_one, white_space, is_blank, in_blank};
 ghost use Rattle.rules.specs.Characters.{blanks_size, all_blank, non_blanks_size, trim_end};
-ghost use Rattle.scan.specs.Low.{is_low_blank, tails_in};
+ghost use Rattle.scan.specs.Low.{is_low_blank};
 
 use crate::classes::Class;
 
@@ -19,7 +19,7 @@ pub fn is_utf8(text: &[u8]) -> bool
 }
 
 /// Whether a byte continues a character.
-pub fn is_continuation(byte: u8) -> bool
+fn is_continuation(byte: u8) -> bool
     ensures { result ≡ continues byte }
 {
     matches!(byte, 128..=191)
@@ -31,13 +31,6 @@ pub fn count_characters(part: &[u8]) -> usize
     ensures within { result ≤ length part.now }
 {
     part.iter().filter(|byte| !is_continuation(**byte)).count()
-}
-
-/// How many of these bytes continue a character.
-pub fn count_continuations(part: &[u8]) -> usize
-    ensures { result ≡ tails_in part.now }
-{
-    part.len() - count_characters(part)
 }
 
 /// The size of the character that begins with a byte, and goes on in those behind it.
@@ -91,7 +84,7 @@ fn is_white_space(code: u32) -> bool
 }
 
 /// Whether a byte is a blank below 128.
-pub fn is_low_blank(byte: u8) -> bool
+fn is_low_blank(byte: u8) -> bool
     ensures { result ≡ is_low_blank byte }
 {
     matches!(byte, 9..=13 | 32)
@@ -120,7 +113,7 @@ fn in_blank(rest: &[u8]) -> bool
 }
 
 /// The size of the blanks at the start, in bytes.
-pub fn blanks_size(rest: &[u8]) -> usize
+pub(crate) fn blanks_size(rest: &[u8]) -> usize
     ensures size { result ≡ blanks_size rest.now }
     ensures within { result ≤ length rest.now }
 {

@@ -3,7 +3,7 @@ ghost use Rattle.std.specs.Prelude.{◌≡◌, ◌+◌, ◌*◌, ◌<◌, ◌≤
 ghost use Rattle.std.specs.Prelude.{OnOk, OnErr, IsErr};
 ghost use Rattle.rules.specs.Words.{zeros};
 ghost use Rattle.rules.specs.Stored.{natural};
-ghost use Rattle.stores.specs.Cells.{record_at, with_record, BlankFrom};
+ghost use Rattle.stores.specs.Cells.{with_record, BlankFrom};
 
 /// A reading or a card has at most so many notes.
 pub const MAX_NOTES: usize = 100_000;
@@ -98,15 +98,6 @@ impl<'a, const N: usize> Records<'a, N> {
         self.cells[at..at + words.len()].copy_from_slice(words);
         self.count += 1;
         Ok(())
-    }
-
-    /// The words of a record.
-    pub fn record(&self, number: usize) -> &[i32]
-        requires { number < self.now.count }
-        ensures { result.now ≡ record_at N self.now.cells.now number }
-    {
-        let at = number * N;
-        &self.cells[at..at + N]
     }
 
     /// The number in a word of a record.

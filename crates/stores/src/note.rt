@@ -207,7 +207,7 @@ fn mark_bit(trill: bool, count: u32) -> u32
 }
 
 // One more mark.
-pub fn add_mark(words: &mut [i32], trill: bool)
+pub(crate) fn add_mark(words: &mut [i32], trill: bool)
     requires whole { length words.old ≡ NOTE }
     requires room { number_at MARK_COUNT words.old < mark_capacity }
     requires fits { number_at MARKS words.old < mark_limit }

@@ -7,3 +7,4 @@ pub mod KeyLaws
 pub mod MeterLaws
 pub mod KindLaws
 pub mod CycleLaws
+pub mod PlainLaws

@@ -31,7 +31,7 @@ impl Clef {
     ghost use Rattle.tokens.specs.Attributes.{clef_in};
 
     /// The clef of a shape on a line.
-    pub fn named(shape: u8, line: u8) -> Option<Clef>
+    pub(crate) fn named(shape: u8, line: u8) -> Option<Clef>
         ensures { clef_in result ≡ clef_named (shape ∷ 45 ∷ line ∷ []) }
     {
         match (shape, line) {
@@ -371,7 +371,7 @@ impl Meter {
     ghost use Rattle.tokens.specs.Attributes.{meter_in};
 
     /// A meter with no symbol.
-    pub fn plain(numerator: Option<u8>, denominator: Option<u8>) -> Option<Meter>
+    pub(crate) fn plain(numerator: Option<u8>, denominator: Option<u8>) -> Option<Meter>
         ensures { meter_in result ≡ plain_meter (number_in numerator) (number_in denominator) }
     {
         let (Some(numerator), Some(denominator)) = (numerator, denominator) else {

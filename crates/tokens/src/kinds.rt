@@ -64,7 +64,7 @@ pub enum Token<'d> {
 /// What the token is that has this first byte and then these bytes.
 #[tactic(auto, unfolding(rules::specs::Tokens::token_of), using(crate::proofs::KindLaws::blanks))]
 #[inline(always)]
-pub fn decode<'d>(first: u8, value: &'d [u8]) -> Token<'d>
+fn decode<'d>(first: u8, value: &'d [u8]) -> Token<'d>
     requires { IsTrue (is_whole first value.now) }
     ensures { token_in result ≡ token_of first value.entry.now }
 {

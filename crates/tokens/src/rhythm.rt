@@ -26,7 +26,7 @@ impl Step {
     ghost use Rattle.tokens.specs.Steps.{step_number};
 
     /// The step of a letter.
-    pub fn of_letter(letter: u8) -> Step
+    pub(crate) fn of_letter(letter: u8) -> Step
         requires { IsTrue (is_note_letter letter) }
         ensures { step_number result ≡ step_of letter }
     {
@@ -88,7 +88,7 @@ impl Octave {
     pub const MAX: usize = 9;
 
     /// A run of `'` sets octave 3 and its size.
-    pub fn raised(size: usize) -> Option<Octave>
+    pub(crate) fn raised(size: usize) -> Option<Octave>
         ensures { octave_in result ≡ raised_octave size }
     {
         if size <= Octave::MAX - 3 {
@@ -101,7 +101,7 @@ impl Octave {
     }
 
     /// A run of `,` sets octave 4 less its size.
-    pub fn lowered(size: usize) -> Option<Octave>
+    pub(crate) fn lowered(size: usize) -> Option<Octave>
         ensures { octave_in result ≡ lowered_octave size }
     {
         if size <= 4 {
@@ -166,7 +166,7 @@ impl Accidental {
         }
     }
 
-    pub fn sharpened(size: usize) -> Accidental
+    pub(crate) fn sharpened(size: usize) -> Accidental
         ensures { alter_of result ≡ sharpened size }
     {
         if size == 1 {
@@ -176,7 +176,7 @@ impl Accidental {
         }
     }
 
-    pub fn flattened(size: usize) -> Accidental
+    pub(crate) fn flattened(size: usize) -> Accidental
         ensures { alter_of result ≡ flattened size }
     {
         if size == 1 {
@@ -242,7 +242,7 @@ impl Barline {
     };
 
     /// `/`, `//` and `//:`, by their sizes.
-    pub fn slashes(size: usize) -> Barline
+    pub(crate) fn slashes(size: usize) -> Barline
         ensures { barline_in result ≡ slashes size }
     {
         let (right, left) = match size {
@@ -254,7 +254,7 @@ impl Barline {
     }
 
     /// `://` and `://:`, by their sizes; a lone `:` is none.
-    pub fn colons(size: usize) -> Option<Barline>
+    pub(crate) fn colons(size: usize) -> Option<Barline>
         ensures { MatchOption result (size ≡ 1) (λ b. barline_in b ≡ colons size) }
     {
         let left = match size {
@@ -296,7 +296,7 @@ impl Duration {
     ghost use Rattle.tokens.specs.Steps.{duration_number};
 
     /// The duration of a digit.
-    pub fn of_digit(digit: u8) -> Duration
+    pub(crate) fn of_digit(digit: u8) -> Duration
         requires { IsTrue (is_digit digit) }
         ensures { duration_number result ≡ duration_of digit }
     {
@@ -396,7 +396,7 @@ impl<'d> Pattern<'d> {
     }
 
     /// The pattern of a digit token.
-    pub fn of_token(digit: u8, rest: &'d [u8]) -> Pattern<'d>
+    pub(crate) fn of_token(digit: u8, rest: &'d [u8]) -> Pattern<'d>
         requires digit { IsTrue (is_digit digit) }
         requires whole { IsTrue (every is_duration rest.now) }
         ensures { lengths_of result ≡ pattern_of (digit ∷ rest.entry.now) }
