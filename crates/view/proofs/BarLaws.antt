@@ -18,7 +18,7 @@ use Rattle.rules.specs.Rules.{State, close}
 use Rattle.rules.specs.Refusals.{LentRecords, over_bars}
 use Rattle.rules.specs.Words.{BarFrom, bars_from, key_words, meter_words, bar_words, bar_cells, padded, cells, note_words}
 use Rattle.stores.specs.Cells.{with_record}
-use Rattle.stores.specs.Bars.{bar_numbers}
+use Rattle.stores.specs.Bars.{BarNumbers, bar_numbers}
 use Rattle.view.specs.declared.refusal.Refusal.{Refusal}
 use Rattle.view.specs.declared.refusal.Refusal.TheVariants.{NoBar}
 use Rattle.view.specs.View.{View, has_note}
@@ -46,11 +46,33 @@ length-bars_from (b ∷ bs) = rw (length-bars_from bs)
 length-padded_bars : (n : ℕ) (bs : List Bar) → length bs * bar_size ≤ n → length (padded n (bar_cells bs)) ≡ n
 length-padded_bars n bs h = rw (length-append, length-replicate, length-cells bar_words bar_size length-bar (bars_from bs), length-bars_from bs) (omega arith)
 
+-- a bar's numbers say the bar of the rules
+pub record Says (b : BarNumbers) (p : BarFrom) : Type 0 where
+  pub first : b.first ≡ p.first
+  pub count : b.count ≡ length p.bar.notes
+  pub clef : b.clef ≡ p.bar.clef
+  pub fifths : b.fifths ≡ p.bar.fifths
+  pub meter : b.meter ≡ p.bar.meter
+  pub left : b.left ≡ p.bar.left
+  pub right : b.right ≡ p.bar.right
+
+-- and then its words are that bar's
+pub bar-words : (b : BarNumbers) (p : BarFrom) → Says b p → bar_numbers b ≡ bar_words p
+bar-words b p s = λ i.
+    pos (s.first i) ∷ pos (s.count i) ∷ pos (get_or (s.clef i) 0) ∷ key_words (s.fifths i) ++ meter_words (s.meter i) ++ pos (s.left i) ∷ pos (s.right i) ∷ []
+
 module _ {s : State} {v : View} (right : ℕ) (q : SameValues s v) (r : Stored s.open_bar s.bars v) where
-  -- its words are those of the rules' bar
+  -- the words of the finished bar are those of the rules' bar
   finished-words : bar_numbers (finished right v) ≡ bar_words (record { first = length (notes_of s.bars); bar = rules.finished right s })
-  finished-words = λ i. pos (r.first i) ∷ pos (length-open r i) ∷ pos (get_or (cond (no-bar s.bars r i) (sym q.clef i or some treble) (sym q.clef i)) 0)
-      ∷ key_words (cond (no-bar s.bars r i) (sym q.fifths i or some (pos 0)) (sym q.fifths i)) ++ meter_words (sym q.meter i) ++ pos (sym q.left i) ∷ pos right ∷ []
+  finished-words = bar-words (finished right v) (record { first = length (notes_of s.bars); bar = rules.finished right s }) (record {
+    first = r.first;
+    count = length-open r;
+    clef = λ i. cond (no-bar s.bars r i) (sym q.clef i or some treble) (sym q.clef i);
+    fifths = λ i. cond (no-bar s.bars r i) (sym q.fifths i or some (pos 0)) (sym q.fifths i);
+    meter = sym q.meter;
+    left = sym q.left;
+    right = refl;
+  })
 
 -- ---- room for it
 

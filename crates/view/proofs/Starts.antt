@@ -1,10 +1,10 @@
 -- The open bar's notes from a start on, and what a `)` makes of them: what the view reads is what the rules say. Assumes nothing.
 use Prim.Native.Nat.{◌+◌, ◌-◌, ◌*◌}
 use native.Mathlib.Omega.{arith}
-use mathlib.Core.Path.{◌≡◌, sym, ap, ◌∙◌}
-use mathlib.Core.Bool.{true, cond}
+use mathlib.Core.Path.{◌≡◌, refl, sym, ap, ◌∙◌}
+use mathlib.Core.Bool.{Bool, true, false, cond}
 use mathlib.Core.Option.{some}
-use lib.ListN.{length, drop}
+use lib.ListN.{length, take, drop}
 use lib.Dec.{eqb, leb}
 use Rattle.rules.specs.Limits.{note_size, mark_capacity}
 use Rattle.rules.specs.Records.{notes_of}
@@ -52,3 +52,15 @@ module _ (s : State) (v : View) (r : Stored s.open_bar s.bars v) (g : Group) (re
   fermata-full f =
       marking.fermata-full (length v.notes) s g (all-from s v r g.start reached e) f
       ∙ sym (λ i. leb mark_capacity (number_at MARK_COUNT (last_timed (cells-same s v r g.start i) (count-same s v r g.start i))))
+
+module _ (s : State) (v : View) (r : Stored s.open_bar s.bars v) (g : Group) (reached : Reached (some g.start) v) where
+  -- what a `)` makes of its group, also in a later bar
+  pub closing-open : steps.closing_of g v ≡ closing_of g s
+  closing-open = go (in_its_bar g.start s) refl
+    where
+      go : (b : Bool) → in_its_bar g.start s ≡ b → steps.closing_of g v ≡ closing_of g s
+      go true e = closing-same s v r g reached e
+      go false e =
+          let none : count_from g.start s ≡ 0 = rw e refl in
+          let here : view.count_from g.start v ≡ 0 = count-same s v r g.start ∙ none in
+          (λ i. closing (timed_count (cells_from g.start v) (here i)) g.count) ∙ sym (λ i. closing (non_grace_in (take (none i) s.open_bar)) g.count)
