@@ -102,8 +102,7 @@ impl<'a, const N: usize> Records<'a, N> {
 
     /// The number in a word of a record.
     pub fn number(&self, number: usize, at: usize) -> u32
-        requires stored { number < self.now.count }
-        requires word { at < N }
+        requires { number * N + at < length self.now.cells.now }
         ensures { result ≡ natural (slice_index_or self.now.cells.now (number * N + at) (pos 0)) }
     {
         natural(self.cells[number * N + at])

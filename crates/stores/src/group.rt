@@ -167,7 +167,7 @@ impl<'a> Records<'a, NOTE> {
     /// `}`: the records from one on, beamed.
     pub fn beam_from(&mut self, from: usize)
         requires from { from ≤ self.old.count }
-        requires fits { self.old.count < word_limit }
+        requires fits { self.old.count - from < word_limit }
         ensures same_cells { self.new.cells.ghost_name ≡ self.old.cells.ghost_name }
         ensures beamed { self.new.cells.now ≡
             on_part NOTE from (λ part. beamed part (self.old.count - from)) self.old.cells.now }

@@ -1,4 +1,4 @@
-use Rattle.std.proofs.Common.{rules, ◌≡◌, [], Ok, arith}
+use Rattle.std.proofs.Common.{rules, ◌≡◌, [], Ok}
 use Rattle.reader.specs.Reader.{view_of}
 use Rattle.view.specs.Steps.{stored_bar}
 use Rattle.reader.proofs.ReadLaws.{counts_fit}

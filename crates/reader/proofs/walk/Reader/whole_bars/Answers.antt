@@ -1,6 +1,5 @@
-use Rattle.std.proofs.Common.{rules, arith, ◌≡◌, ◌<◌, ◌≤◌, ◌-◌, ◌+◌, suc, Ok}
+use Rattle.std.proofs.Common.{rules, arith, ◌≡◌, ◌-◌, ◌+◌, suc}
 use Rattle.reader.specs.Reader.{view_of}
-use Rattle.view.specs.Steps.{after_whole_bars}
 use Rattle.reader.proofs.BarLaws.{refused, further, barred, unrested}
 use Rattle.reader.proofs.walk.Reader.whole_bars.Goals as goal
 
