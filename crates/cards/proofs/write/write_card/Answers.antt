@@ -1,4 +1,4 @@
-use Rattle.std.proofs.Common.{arith, ap, ◌∙◌, ◌≡◌, ◌-◌, length, take, drop, List, ℕ}
+use Rattle.std.proofs.Common.{arith, ap, ◌∙◌, ◌-◌, length, drop, List, ℕ}
 use lib.ListN.{replicate, length-drop}
 use lib.Seq.{length-take-le}
 use Rattle.cards.proofs.AnswerLaws.{answered}

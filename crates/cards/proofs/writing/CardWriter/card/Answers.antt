@@ -1,6 +1,5 @@
-use Rattle.std.proofs.Common.{arith, sym, ap, ◌∙◌, ◌≡◌, length, take}
+use Rattle.std.proofs.Common.{arith, ap, length}
 use lib.Seq.{length-take-le}
-use Rattle.cards.specs.Card.{such, card_of}
 use Rattle.cards.specs.Written.{records_in}
 use Rattle.cards.proofs.RecordLaws.{cells-hold}
 use Rattle.cards.proofs.SizeLaws.{card_most}
