@@ -1,13 +1,13 @@
 -- The writer's three answers, from what the code finds. Assumes nothing.
-use Prim.Native.Nat.{ℕ, ◌+◌, ◌-◌, ◌<◌, ◌≤◌}
+use Prim.Native.Nat.{ℕ, ◌-◌, ◌<◌}
 use native.Mathlib.Omega.{arith}
 use native.Mathlib.Nat.{sub-zero}
-use mathlib.Core.Path.{◌≡◌, refl, sym, ap, ◌∙◌}
-use mathlib.Core.Bool.{true, false, false≢true}
+use mathlib.Core.Path.{◌≡◌, sym, ap, ◌∙◌}
+use mathlib.Core.Bool.{false≢true}
 use mathlib.Core.Option.{none, some}
-use mathlib.Core.List.{List, [], ◌++◌, append-nil}
+use mathlib.Core.List.{List, [], append-nil}
 use lib.IntN.{ℤ}
-use lib.ListN.{length, take, drop, length-drop}
+use lib.ListN.{length, drop, length-drop}
 use lib.Seq.{length-take-le}
 use borrow.Author.Tests.{le-leb, lt-leb}
 use borrow.Rule.Slice.PartMut.{put_mid, post_of}
@@ -15,8 +15,7 @@ use Rattle.std.proofs.lemmas.List.{drop_all}
 use Rattle.std.proofs.Common.{Result, Ok, Err}
 use Rattle.std.specs.Result.{result_unwrap_or}
 use Rattle.cards.specs.Card.{Form, card_of}
-use Rattle.cards.specs.Records.{such_cells}
-use Rattle.cards.specs.Answers.{no_bytes, write_refused, Written}
+use Rattle.cards.specs.Answers.{no_bytes, Written}
 use Rattle.cards.specs.Written.{records_in, Puts, written}
 use Rattle.cards.specs.declared.error.CardError.{CardError}
 use Rattle.cards.specs.declared.error.CardError.TheVariants.{Invalid, NoRoom}

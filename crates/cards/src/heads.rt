@@ -36,12 +36,15 @@ impl Head {
     ghost use Rattle.cards.specs.Fields.{bit_map};
     ghost use Rattle.cards.specs.Judged.{natural};
     ghost use Rattle.cards.specs.Card.{such_head, head_bits};
-    ghost use Rattle.cards.specs.Values.{such_meter, clef_value, key_value, key_numbered, numerator_of, denominator_of, symbol_of, card_head, head_numbered};
+    ghost use Rattle.cards.specs.Values.{such_meter, clef_value, key_value, key_numbered};
+    ghost use Rattle.cards.specs.Values.{numerator_of, denominator_of, symbol_of};
+    ghost use Rattle.cards.specs.Values.{card_head, head_numbered};
     ghost use Rattle.cards.specs.Places.{Judges};
 
     // The clef of a number, none for 0.
     fn clef_of(number: i32) -> Result<Option<Clef>, CardError>
-        ensures { MatchResult result (λ c. (clef_value c ≡ natural number) × (natural number ≤ 8)) (λ _. leb (natural number) 8 ≡ false) }
+        ensures { MatchResult result (λ c. (clef_value c ≡ natural number) × (natural number ≤ 8))
+            (λ _. leb (natural number) 8 ≡ false) }
     {
         if number == 0 {
             return Ok(None);
@@ -51,7 +54,8 @@ impl Head {
 
     // The key of its fifths, if it is set.
     fn key_of(fifths: Option<i32>) -> Result<Option<u8>, CardError>
-        ensures { MatchResult result (λ k. (key_value k ≡ key_numbered fifths) × (get_or (key_numbered fifths) 0 ≤ 14))
+        ensures { MatchResult result
+            (λ k. (key_value k ≡ key_numbered fifths) × (get_or (key_numbered fifths) 0 ≤ 14))
             (λ _. leb (get_or (key_numbered fifths) 0) 14 ≡ false) }
     {
         let Some(fifths) = fifths else {
@@ -62,7 +66,8 @@ impl Head {
 
     // The symbol of a number, none for 0.
     fn symbol_of(number: i32) -> Result<Option<Symbol>, CardError>
-        ensures { MatchResult result (λ s. (symbol_value s ≡ natural number) × (natural number ≤ 2)) (λ _. leb (natural number) 2 ≡ false) }
+        ensures { MatchResult result (λ s. (symbol_value s ≡ natural number) × (natural number ≤ 2))
+            (λ _. leb (natural number) 2 ≡ false) }
     {
         if number == 0 {
             return Ok(None);

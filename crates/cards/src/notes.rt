@@ -14,6 +14,9 @@ use stores::cells::{MAX_MARKS, MAX_PITCHES};
 use stores::note::NoteKind;
 use tokens::rhythm::{Duration, Length, Octave, Step, normal_of};
 
+/// A card holds at most so many notes.
+pub const MAX_NOTES: usize = 100_000;
+
 /// A pitch of a note; its alteration plus 2.
 #[derive(Clone, Copy, Debug, PartialEq, Eq)]
 pub struct Pitch {
@@ -75,7 +78,8 @@ impl Pitch {
         octave: i32,
         alter: i32,
     ) -> Result<Pitch, CardError>
-        ensures { Judges (such_pitch W.form) card_pitch (pitch_numbered place step octave alter) result }
+        ensures { Judges (such_pitch W.form) card_pitch
+            (pitch_numbered place step octave alter) result }
     {
         if place < 1 {
             return Err(CardError::Invalid);
@@ -151,7 +155,8 @@ impl Note {
     #[inline(always)]
     pub fn new<W: PlaceWidth>(numbers: Numbers, pitches: Pitches) -> Result<Note, CardError>
         requires { every (such_pitch W.form) (card_pitches pitches) ≡ true }
-        ensures { Judges (such_note W.form) card_note (numbered numbers (card_pitches pitches)) result }
+        ensures { Judges (such_note W.form) card_note
+            (numbered numbers (card_pitches pitches)) result }
     {
         if numbers.place < 1 {
             return Err(CardError::Invalid);

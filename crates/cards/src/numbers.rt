@@ -21,7 +21,8 @@ pub fn bit(field: u8) -> u8
 
 // A number from 0 to `most`.
 pub fn up_to(number: i32, most: u8) -> Result<u8, CardError>
-    ensures { MatchResult result (λ n. (pos n ≡ number) × (n ≤ most)) (λ _. leb (natural number) most ≡ false) }
+    ensures { MatchResult result (λ n. (pos n ≡ number) × (n ≤ most))
+        (λ _. leb (natural number) most ≡ false) }
 {
     if number < 0 {
         return Err(CardError::Invalid);
@@ -35,7 +36,8 @@ pub fn up_to(number: i32, most: u8) -> Result<u8, CardError>
 // A number plus `k`, if that is from 0 to `most`.
 pub fn raised(number: i32, k: u8, most: u8) -> Result<u8, CardError>
     requires { k ≤ most }
-    ensures { MatchResult result (λ n. (n ≡ raised k number) × (n ≤ most)) (λ _. leb (raised k number) most ≡ false) }
+    ensures { MatchResult result (λ n. (n ≡ raised k number) × (n ≤ most))
+        (λ _. leb (raised k number) most ≡ false) }
 {
     let most = i32::from(most) - i32::from(k);
     if number < -i32::from(k) {

@@ -1,6 +1,7 @@
 // The width of a place in a card.
 ghost use Rattle.std.specs.Prelude.{◌≡◌, ◌≤◌, ◌<◌, ◌^◌};
 ghost use Rattle.std.proofs.Common.{rules};
+ghost use Rattle.stores.specs.Cells.{word_limit};
 ghost use Rattle.cards.specs.Fields.{number};
 ghost use Rattle.cards.specs.Card.{Form, form1};
 ghost use Rattle.cards.specs.Taken.{number_taken};
@@ -36,7 +37,7 @@ pub trait PlaceWidth {
 
     ghost narrow: { form.width ≤ 4 };
 
-    ghost word: { form.greatest < 2147483648 };
+    ghost worded: { form.greatest < word_limit };
 }
 
 /// Places in two bytes: cards of form 1.
@@ -49,7 +50,7 @@ impl PlaceWidth for TwoBytes {
 
     ghost narrow = { Prim.search rules };
 
-    ghost word = { Prim.search rules };
+    ghost worded = { Prim.search rules };
 
     fn first() -> u8 {
         1

@@ -2,7 +2,8 @@
 ghost use Rattle.std.specs.Prelude.{◌≡◌, ◌≤◌, true, false, length, MatchResult};
 ghost use Rattle.rules.specs.Limits.{note_size, bar_size};
 ghost use Rattle.cards.specs.Card.{such_pitch};
-ghost use Rattle.cards.specs.Judged.{all_zero, pitch_of, note_of, head_of, such_words, such_head_words, key_of, such_key};
+ghost use Rattle.cards.specs.Judged.{all_zero, pitch_of, note_of, head_of, such_words};
+ghost use Rattle.cards.specs.Judged.{such_head_words, key_of, such_key};
 ghost use Rattle.cards.specs.Values.{card_pitch, card_note, card_head, key_numbered};
 ghost use Rattle.cards.specs.Places.{Judges, JudgesAs};
 ghost use Rattle.cards.specs.WordPitches.{JudgesPitches};
@@ -81,8 +82,8 @@ impl Note {
 fn are_zero(words: &[i32]) -> bool
     ensures { result ≡ all_zero words.now }
 {
-    for i in 0..words.len() {
-        if natural(words[i]) != 0 {
+    for word in words {
+        if natural(*word) != 0 {
             return false;
         }
     }
@@ -113,7 +114,9 @@ impl Head {
 
 // The fifths of a key's two words: whether it is set, and they, 0 where it isn't.
 fn fifths_of(set: i32, fifths: i32) -> Result<Option<i32>, CardError>
-    ensures { MatchResult result (λ f. (key_numbered f ≡ key_of set fifths) × (such_key set fifths ≡ true)) (λ _. such_key set fifths ≡ false) }
+    ensures { MatchResult result
+        (λ f. (key_numbered f ≡ key_of set fifths) × (such_key set fifths ≡ true))
+        (λ _. such_key set fifths ≡ false) }
 {
     if set == 0 {
         if fifths != 0 {

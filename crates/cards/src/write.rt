@@ -6,13 +6,11 @@ ghost use Rattle.cards.specs.Written.{WritesBar, WritesBars, WritesRecords, Puts
 
 use super::error::CardError;
 use super::heads::Head;
+use super::notes::MAX_NOTES;
 use super::numbers::natural;
 use super::width::PlaceWidth;
 use super::writing::CardWriter;
 use stores::cells::{BAR, NOTE};
-
-/// A card holds at most so many notes.
-pub(crate) const MAX_NOTES: usize = 100_000;
 
 impl<'a> CardWriter<'a> {
     // A bar of these words, its notes at the front of `notes`; how many they are.

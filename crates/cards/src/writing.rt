@@ -3,7 +3,7 @@ ghost use Rattle.std.specs.Prelude.{◌≡◌, ◌≤◌, ◌∷◌, [], true, l
 ghost use Rattle.std.proofs.Math.Option.{get_or};
 ghost use Rattle.rules.specs.Records.{is_some};
 ghost use Rattle.cards.specs.Fields.{number, stands, under, each, every};
-ghost use Rattle.cards.specs.Card.{such_pitch, such_note, such_head, pitch_bytes, note_bytes, head_bytes};
+ghost use Rattle.cards.specs.Card.{such_pitch, such_note, pitch_bytes, note_bytes, head_bytes};
 
 use super::error::CardError;
 use super::heads::{Head, edge_number};
@@ -79,8 +79,8 @@ impl<'a> CardWriter<'a> {
         requires { every (such_pitch W.form) (card_pitches pitches.now) ≡ true }
         ensures { Wrote (each (pitch_bytes W.form) (card_pitches pitches.now)) self.old self.new }
     {
-        for i in 0..pitches.count {
-            self.pitch::<W>(pitches.list[i]);
+        for pitch in &pitches.list[..pitches.count] {
+            self.pitch::<W>(*pitch);
         }
     }
 
@@ -138,7 +138,8 @@ impl<'a> CardWriter<'a> {
 
     // A key under its bit.
     fn key(&mut self, key: Option<u8>)
-        ensures { Wrote (under (is_some (key_value key)) (get_or (key_value key) 0 ∷ [])) self.old self.new }
+        ensures { Wrote (under (is_some (key_value key)) (get_or (key_value key) 0 ∷ []))
+            self.old self.new }
     {
         match key {
             Some(key) => self.append(&[key]),

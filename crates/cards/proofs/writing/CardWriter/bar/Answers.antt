@@ -1,4 +1,4 @@
-use Rattle.std.proofs.Common.{rules, arith, ap, sym, ◌∙◌, ◌≡◌, ◌≤◌, ◌*◌, ◌++◌, length, get_or, pos, w32}
+use Rattle.std.proofs.Common.{rules, arith, ap, sym, ◌∙◌, ◌*◌, ◌++◌, length, get_or, pos, w32}
 use mir.Val.{SFits}
 use Rattle.std.proofs.lemmas.Int.{to_z-of_z}
 use Rattle.std.proofs.lemmas.Result.{MatchResult-from_err}

@@ -3,7 +3,7 @@ use Rattle.std.specs.Slice.Iter.{chunks_exact_rest}
 use Rattle.std.proofs.lemmas.List.{take_rest, length-drop}
 use Rattle.std.proofs.lemmas.Result.{MatchResult-from_err}
 use Rattle.rules.specs.Limits.{note_size}
-use Rattle.cards.proofs.WriteLaws.{same_none, bars_end, bars_left, bars_one, bars_not}
+use Rattle.cards.proofs.WriteLaws.{bars_end, bars_left, bars_one, bars_not}
 use Rattle.cards.proofs.writing.CardWriter.bars.Goals as goal
 
 pub returns-in_err-count : goal.returns-in_err-count

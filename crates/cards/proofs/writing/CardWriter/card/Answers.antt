@@ -1,6 +1,5 @@
-use Rattle.std.proofs.Common.{arith, sym, ap, ◌∙◌, ◌≡◌, length, take}
+use Rattle.std.proofs.Common.{arith, ap, length}
 use lib.Seq.{length-take-le}
-use Rattle.cards.specs.Card.{such, card_of}
 use Rattle.cards.specs.Written.{records_in}
 use Rattle.cards.proofs.RecordLaws.{cells-hold}
 use Rattle.cards.proofs.SizeLaws.{card_most}
@@ -23,6 +22,6 @@ overflow_cast-result g c =
     let form = g.W.PlaceWidth.form in
     let r = c.in-Ok.ensures in
     let w = c.records.new.self in
-    let hold = cells-hold form (omega (arith, g.met.W.PlaceWidth.word)) a.notes.now a.bars.now r.wrote.0 in
+    let hold = cells-hold form (omega (arith, g.met.W.PlaceWidth.worded)) a.notes.now a.bars.now r.wrote.0 in
     let size = ap length (put_whole r.wrote.1 c.requires.front c.requires.room c.if-self.false) in
     record { fits = omega (arith, card_most form g.met.W.PlaceWidth.narrow (records_in a.notes.now a.bars.now) hold.are, size, length-take-le w.at w.card.now w.within) }

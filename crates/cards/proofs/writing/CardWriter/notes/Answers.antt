@@ -1,7 +1,6 @@
-use Rattle.std.proofs.Common.{arith, ap, sym, ◌∙◌, ◌≡◌, ◌++◌, length}
+use Rattle.std.proofs.Common.{arith, ap, ◌∙◌}
 use Rattle.std.specs.Slice.Iter.{chunks_exact_rest}
 use Rattle.std.proofs.lemmas.Result.{MatchResult-from_err}
-use Rattle.rules.specs.Limits.{note_size}
 use Rattle.cards.specs.Card.{such_note, note_bytes}
 use Rattle.cards.proofs.JudgeLaws.{words_fit}
 use Rattle.cards.proofs.PutLaws.{wrote_as}

@@ -5,5 +5,6 @@ use Rattle.cards.specs.Values.{card_pitch}
 use Rattle.cards.specs.Writer.{Wrote}
 use Rattle.cards.proofs.writing.CardWriter.pitches.Given as goal
 
-abbrev pub invariant-loop-i : goal.invariant-loop-i
-invariant-loop-i g l = Wrote (each (pitch_bytes g.W.PlaceWidth.form) (map card_pitch (take l.i l.pitches.list))) l.initial.self l.self
+abbrev pub invariant-loop-pitch : goal.invariant-loop-pitch
+invariant-loop-pitch g l =
+    Wrote (each (pitch_bytes g.W.PlaceWidth.form) (map card_pitch (take l.pitch-index (take l.pitches.count l.pitches.list)))) l.initial.self l.self
