@@ -14,3 +14,4 @@ pub mod NumberLaws
 pub mod JudgeLaws
 pub mod ValueLaws
 pub mod BitLaws
+pub mod ReadLaws

@@ -5,6 +5,7 @@ pub mod error;
 pub mod heads;
 pub mod notes;
 pub mod numbers;
+pub mod read;
 pub mod reading;
 pub mod width;
 pub mod words;

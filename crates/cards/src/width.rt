@@ -1,6 +1,7 @@
 // The width of a place in a card.
 ghost use Rattle.std.specs.Prelude.{◌≡◌, ◌≤◌, ◌<◌, ◌^◌};
 ghost use Rattle.std.proofs.Common.{rules};
+ghost use Rattle.stores.specs.Cells.{word_limit};
 ghost use Rattle.cards.specs.Fields.{number};
 ghost use Rattle.cards.specs.Card.{Form, form1};
 ghost use Rattle.cards.specs.Taken.{number_taken};
@@ -35,6 +36,8 @@ pub trait PlaceWidth {
     ghost fits: { form.greatest < 256 ^ form.width };
 
     ghost narrow: { form.width ≤ 4 };
+
+    ghost worded: { form.greatest < word_limit };
 }
 
 /// Places in two bytes: cards of form 1.
@@ -46,6 +49,8 @@ impl PlaceWidth for TwoBytes {
     ghost fits = { Prim.search rules };
 
     ghost narrow = { Prim.search rules };
+
+    ghost worded = { Prim.search rules };
 
     fn first() -> u8 {
         1

@@ -1,0 +1,68 @@
+-- What is read back from a card: the answer, and what each step stores in lent records. Assumes nothing.
+use Rattle.std.specs.Prelude.{ℕ, suc, ◌+◌, ◌*◌, ◌≤◌, ◌≡◌, List, ℤ, length, Result, Ok, Err, MatchResult}
+use Rattle.std.proofs.Math.Option.{none, some}
+use Rattle.rules.specs.Limits.{note_size, bar_size}
+use Rattle.rules.specs.Words.{zeros}
+use Rattle.stores.specs.Cells.{written}
+use Rattle.cards.specs.Fields.{each}
+use Rattle.cards.specs.Card.{Note, Bar, Form, note_count}
+use Rattle.cards.specs.Words.{note_words, bar_words, note_cells, bar_cells}
+use Rattle.cards.specs.Answers.{Read, read_refused, read_of}
+use Rattle.cards.specs.Taken.{notes_taken, bar_behind, bars_taken, card_taken}
+use Rattle.cards.specs.Errors.{error_number}
+use Rattle.cards.specs.declared.error.CardError.{CardError}
+use Rattle.cards.specs.declared.read.CardCounts.{CardCounts}
+
+-- the number, 0 where a card is read, the counts and the lent cells
+abbrev pub read_back : Result CardCounts CardError → List ℤ → List ℤ → Read
+read_back (Ok counts) notes bars =
+    record { number = 0; notes = counts.notes; bars = counts.bars; note_cells = notes; bar_cells = bars }
+read_back (Err error) notes bars =
+    record { number = error_number error; notes = 0; bars = 0; note_cells = notes; bar_cells = bars }
+
+-- words stored from cell `at` on, where they fit; more are stored from cell `at'` on
+pub record Appends (words cells : List ℤ) (at : ℕ) (cells' : List ℤ) (at' : ℕ) : Type 0 where
+  pub sized : length cells' ≡ length cells
+  pub stored : at + length words ≤ length cells → cells' ≡ written cells at words
+  pub next : at + length words ≤ length cells → at' ≡ at + length words
+
+-- lent records: their cells, and how many are stored
+pub record Lent : Type 0 where
+  pub cells : List ℤ
+  pub count : ℕ
+
+abbrev pub StoresNotes : List ℤ → Lent → Lent → Type 0
+StoresNotes words s t = Appends words s.cells (s.count * note_size) t.cells (t.count * note_size)
+
+abbrev pub StoresBars : List ℤ → Lent → Lent → Type 0
+StoresBars words s t = Appends words s.cells (s.count * bar_size) t.cells (t.count * bar_size)
+
+-- so many notes of bar `number` at the front, and they are stored
+pub record NotesRead (form : Form) (count number : ℕ) (before : List ℕ) (s : Lent) (behind : List ℕ) (t : Lent) : Type 0 where
+  pub list : List Note
+  pub taken : notes_taken form count before ≡ some (list, behind)
+  pub stored : StoresNotes (each (note_words number) list) s t
+
+-- a bar behind those that are counted, and it is stored
+pub record BarRead (form : Form) (counts : CardCounts) (before : List ℕ) (notes bars : Lent) (counts' : CardCounts) (behind : List ℕ) (notes' bars' : Lent) : Type 0 where
+  pub bar : Bar
+  pub taken : bar_behind form counts.notes before ≡ some (bar, behind)
+  pub note_count : counts'.notes ≡ counts.notes + length bar.notes
+  pub bar_count : counts'.bars ≡ suc counts.bars
+  pub note_cells : StoresNotes (each (note_words (suc counts.bars)) bar.notes) notes notes'
+  pub bar_cells : StoresBars (bar_words counts.notes bar) bars bars'
+
+-- so many bars, and they are stored
+pub record BarsRead (form : Form) (count : ℕ) (before : List ℕ) (notes bars : Lent) (counts : CardCounts) (behind : List ℕ) (notes' bars' : Lent) : Type 0 where
+  pub list : List Bar
+  pub taken : bars_taken form count before ≡ some (list, behind)
+  pub note_count : counts.notes ≡ note_count list
+  pub bar_count : counts.bars ≡ count
+  pub note_cells : StoresNotes (note_cells 1 list) notes notes'
+  pub bar_cells : StoresBars (bar_cells 0 list) bars bars'
+
+-- the whole card is read and stored in cleared cells; or its refusal, before the cells are cleared again
+abbrev pub ReadsCard : Form → List ℕ → Result CardCounts CardError → List ℤ → List ℤ → Type 0
+ReadsCard form card r notes bars = MatchResult r
+    (λ counts. read_back (Ok counts) notes bars ≡ read_of (length notes) (length bars) (card_taken form card))
+    (λ error. read_refused (error_number error) (length notes) (length bars) ≡ read_of (length notes) (length bars) (card_taken form card))
