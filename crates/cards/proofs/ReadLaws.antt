@@ -1,19 +1,52 @@
 -- What is stored of a card that is read, step by step. Assumes nothing.
 use Prim.Native.Nat.{ℕ, zero, suc, ◌+◌, ◌-◌, ◌*◌, ◌<◌, ◌≤◌}
 use native.Mathlib.Omega.{arith}
-use native.Mathlib.Nat.{add-zero, zero-add}
+use native.Mathlib.Nat.{add-zero, zero-add, suc-mul, lt_of_not-le}
+use native.Mathlib.Numerals.{add-one}
 use mathlib.Core.Path.{◌≡◌, refl, ap, sym, ◌∙◌}
-use mathlib.Core.List.{List, [], ◌∷◌, ◌++◌, append_assoc, append-nil}
+use mathlib.Core.Bool.{Bool, true, false, false≢true, ◌&&◌}
+use mathlib.Core.Option.{none, some, get_or}
+use mathlib.Core.List.{List, [], ◌∷◌, ◌++◌, map, append_assoc, append-nil}
 use lib.IntN.{ℤ, pos}
+use lib.ListN as lists
 use lib.ListN.{length, take, drop, length-append, length-drop, length-replicate, take-append-drop}
 use lib.Seq.{take_at, drop_at, drop-drop, length-take-le}
-use Rattle.rules.specs.Words.{zeros, padded}
-use Rattle.stores.specs.Cells.{written}
+use lib.Dec.{leb}
+use borrow.Author.Tests.{leb-true, le-leb, lt-leb}
+use denote.Ref.{MutBor}
+use borrow.Rule.Slice.PartMut.{put_mid}
+use Rattle.std.specs.Prelude.{◌↔◌, Option, Some, None, Result, Ok, Err, IsErr, OnOk, OnErr}
+use Rattle.std.proofs.lemmas.List.{length-map}
+use Rattle.rules.specs.Limits.{note_limit, note_size, bar_size, first_pitch, pitch_size, pitch_capacity}
+use Rattle.std.proofs.lemmas.Bool.{and_parts}
+use Rattle.rules.specs.Words.{zeros, padded, meter_words}
+use Rattle.rules.specs.Words as rules
+use Rattle.tokens.specs.Attributes.{clef_in, meter_in, symbol_number}
+use Rattle.tokens.specs.Steps.{edge_number}
+use Rattle.tokens.specs.declared.attributes.Clef.{Clef}
+use Rattle.tokens.specs.declared.attributes.Symbol.{Symbol}
+use Rattle.tokens.specs.declared.attributes.Meter.{Meter}
+use Rattle.stores.specs.Bars.{fifths_in}
+use Rattle.stores.specs.declared.cells.Records.{Records}
+use Rattle.stores.specs.Cells.{written, with_record}
+use Rattle.stores.proofs.Parts.{put_written}
 use Rattle.stores.proofs.Blank.{blank-cleared}
-use Rattle.cards.specs.Fields.{each}
-use Rattle.cards.specs.Card.{Bar, note_count}
-use Rattle.cards.specs.Words.{note_words, bar_words, note_cells, bar_cells}
-use Rattle.cards.specs.ReadBack.{Appends}
+use Rattle.cards.specs.Fields.{each, every, between}
+use Rattle.cards.specs.Card.{Bar, Form, pitch_tests, such_pitch, note_tests, such_note, head_tests, such_head, note_count}
+use Rattle.cards.specs.Card as card
+use Rattle.cards.specs.Words.{pitch_words, pitch_cells, note_words, key_words, head_words, bar_words, note_cells, bar_cells}
+use Rattle.cards.specs.Values.{clef_value, symbol_value, key_value, numerator_of, denominator_of, symbol_of, card_pitch, card_note, card_head}
+use Rattle.cards.specs.declared.notes.Pitch.{Pitch}
+use Rattle.cards.specs.declared.notes.Note.{Note}
+use Rattle.cards.specs.declared.read.CardCounts.{CardCounts}
+use Rattle.cards.specs.Taken.{note_taken, notes_taken, head_taken, bar_behind, bars_taken, repeated}
+use Rattle.cards.specs.declared.heads.Head.{Head}
+use Rattle.cards.proofs.FieldLaws.{all_hold}
+use Rattle.cards.proofs.PartLaws.{each_append}
+use Rattle.cards.proofs.SuchLaws.{length-pitches}
+use Rattle.cards.proofs.ValueLaws.{length_pitches, each_taken, every_taken}
+use Rattle.cards.proofs.CardTaken.{bars_sound, note-count-more}
+use Rattle.cards.specs.ReadBack.{Appends, Stores, NotesRead, BarRead, BarsRead}
 
 -- ---- words stored behind others
 
@@ -69,3 +102,162 @@ bar_cells_more first [] b = rw (append-nil, add-zero)
 bar_cells_more first (x ∷ l) b =
     let e : first + length x.notes + note_count l ≡ first + (length x.notes + note_count l) = omega arith in
     rw (bar_cells_more (first + length x.notes) l b, e, append_assoc)
+
+-- ---- a head's words are those of a bar's record
+
+clef_same : (c : Option Clef) → get_or (clef_in c) 0 ≡ clef_value c
+clef_same (Some c) = refl
+clef_same None = refl
+
+symbol_same : (s : Option Symbol) → symbol_number s ≡ symbol_value s
+symbol_same (Some s) = refl
+symbol_same None = refl
+
+meter_front : (m : Option Meter) (r : List ℤ) → meter_words (meter_in m) ++ r ≡ pos (numerator_of m) ∷ pos (denominator_of m) ∷ pos (symbol_of m) ∷ r
+meter_front (Some m) r = rw (symbol_same m.symbol)
+meter_front None r = refl
+
+pub bar_same : (first count : ℕ) (h : Head) (fifths : Option ℤ) → rules.key_words (fifths_in fifths) ≡ key_words (key_value h.key)
+    → pos first ∷ pos count ∷ pos (get_or (clef_in h.clef) 0) ∷ rules.key_words (fifths_in fifths) ++ meter_words (meter_in h.meter) ++ pos (edge_number h.left) ∷ pos (edge_number h.right) ∷ [] ≡ head_words first count (card_head h)
+unfolding head_words
+bar_same first count h fifths e =
+    let ends = pos (edge_number h.left) ∷ pos (edge_number h.right) ∷ [] in
+    append_assoc (pos first ∷ pos count ∷ pos (get_or (clef_in h.clef) 0) ∷ rules.key_words (fifths_in fifths)) (meter_words (meter_in h.meter)) ends
+        ∙ (λ i. (pos first ∷ pos count ∷ pos (clef_same h.clef i) ∷ e i) ++ meter_front h.meter ends i)
+
+pub head_key : (h : card.Head) → such_head h ≡ true → get_or h.key 0 ≤ 14
+unfolding such_head
+head_key h s = leb-true (get_or h.key 0) 14 (all_hold (head_tests h) s).1.0
+
+-- ---- a note's words
+
+-- places are words
+pub note_place : (form : Form) (n : card.Note) → such_note form n ≡ true → n.place ≤ form.greatest
+unfolding such_note
+note_place form n h = leb-true n.place form.greatest (and_parts (leb 1 n.place) (leb n.place form.greatest) (all_hold (note_tests form n) h).0).1
+
+note_pitches : (form : Form) (n : card.Note) → such_note form n ≡ true → every (such_pitch form) n.pitches ≡ true
+unfolding such_note
+note_pitches form n h = (all_hold (note_tests form n) h).1.1.1.1.1.1.1.1.1.1.0
+
+pub pitch_place : (form : Form) (n : Note) (blank : Pitch) (i : ℕ) → such_note form (card_note n) ≡ true → i < n.pitches.count → (lists.get_or n.pitches.list i blank).place ≤ form.greatest
+unfolding such_pitch
+pitch_place form n blank i h k =
+    let qs = n.pitches in
+    let q = lists.get_or qs.list i none in
+    let such = every_taken card_pitch (such_pitch form) blank qs.list qs.count i k (omega (arith, qs.few, qs.whole)) (note_pitches form (card_note n) h) in
+    let t = all_hold (pitch_tests form (card_pitch q)) such in
+    leb-true q.place form.greatest (and_parts (leb 1 q.place) (leb q.place form.greatest) t.0).1
+
+-- the first i pitches, and blank ones behind them
+abbrev pub pitches_so_far : Note → ℕ → List ℤ
+pitches_so_far n i = each pitch_words (map card_pitch (take i n.pitches.list)) ++ zeros (pitch_size * (pitch_capacity - i))
+
+-- words written over the first of blank ones
+blank_written : (f b w words : List ℤ) (z at k : ℕ) → words ≡ f ++ (b ++ zeros z) → length f + length b ≡ at → length w ≡ k → put_mid at k words w ≡ f ++ ((b ++ w) ++ zeros (z - k))
+blank_written f b w words z at k e h m =
+    let front : length (f ++ b) ≡ at = length-append f b ∙ h in
+    let whole : words ≡ (f ++ b) ++ zeros z = e ∙ sym (append_assoc f b (zeros z)) in
+    let before : take at words ≡ f ++ b = ap (take at) whole ∙ take_at (f ++ b) (zeros z) at front in
+    let behind : drop (at + length w) words ≡ zeros (z - k) =
+    sym (drop-drop (length w) at words) ∙ ap (drop (length w)) (ap (drop at) whole ∙ drop_at (f ++ b) (zeros z) at front) ∙ blank-cleared z (length w) ∙ rw (length-replicate, m) in
+    put_written at k words w m ∙ (λ i. before i ++ (w ++ behind i)) ∙ rw (append_assoc, append_assoc)
+
+pub one_more_pitch : (bar i at k : ℕ) (n : Note) (blank : Pitch) (words w : List ℤ) → i < n.pitches.count → at ≡ 12 + i * 4 → k ≡ 4 → w ≡ pitch_words (card_pitch (lists.get_or n.pitches.list i blank))
+    → words ≡ take first_pitch (note_words bar (card_note n)) ++ pitches_so_far n i → put_mid at k words w ≡ take first_pitch (note_words bar (card_note n)) ++ pitches_so_far n (i + 1)
+unfolding note_words
+one_more_pitch bar i at k n blank words w h a four e s =
+    let qs = n.pitches in
+    let l = qs.list in
+    let f = take first_pitch (note_words bar (card_note n)) in
+    let b = each pitch_words (map card_pitch (take i l)) in
+    let few : i < length l = omega (arith, qs.few, qs.whole) in
+    let long : length b ≡ 4 * i = length-pitches (map card_pitch (take i l)) ∙ ap (λ (x : ℕ). 4 * x) (length-map (take i l) card_pitch ∙ length-take-le i l (omega arith)) in
+    let size : length w ≡ k = ap length e ∙ sym four in
+    let more : b ++ w ≡ each pitch_words (map card_pitch (take (i + 1) l)) = ap (λ (x : List ℤ). b ++ x) e ∙ sym (each_taken card_pitch pitch_words blank l i few) in
+    let room : pitch_size * (pitch_capacity - i) - k ≡ pitch_size * (pitch_capacity - (i + 1)) = omega (arith, qs.few) in
+    blank_written f b w words (pitch_size * (pitch_capacity - i)) at k s (omega (arith, long)) size ∙ (λ j. f ++ (more j ++ zeros (room j)))
+
+pub all_pitches : (bar : ℕ) (n : Note) → take first_pitch (note_words bar (card_note n)) ++ pitches_so_far n n.pitches.count ≡ note_words bar (card_note n)
+unfolding note_words pitch_cells
+all_pitches bar n = rw (length_pitches n.pitches)
+
+-- ---- a record stored
+
+pub begun : {R E : Type 0} (r : Result R E) (size : ℕ) (words : List ℤ) (s t : Records size) → length words ≡ size → (IsErr r ↔ (length s.cells.now < s.count * size + size)) → OnErr r (t.cells ≡ s.cells)
+    → OnOk r (t.cells.now ≡ with_record size s.cells.now s.count words) → OnOk r (t.count ≡ s.count + 1) → Stores words s t
+begun (Ok x) size words s t e full err stored counted =
+    let l = s.cells.now in
+    let room : s.count * size + size < suc (length l) = lt_of_not-le (λ h. false≢true (full.1 h)) in
+    let fits : s.count * size + size ≤ length l = omega (arith, room) in
+    let next : t.count * size ≡ s.count * size + size = rw (counted, add-one, suc-mul) in
+    record { sized = ap length stored ∙ length_written l (s.count * size) words (omega (arith, e, fits)); stored = λ h. stored; next = λ h. omega (arith, e, next) }
+begun (Err x) size words s t e full err stored counted =
+    let no = full.0 refl in
+    record { sized = ap (λ (m : MutBor (List ℤ)). length m.now) err; stored = λ h. absurd (omega (arith, h, e, no)); next = λ h. absurd (omega (arith, h, e, no)) }
+
+-- ---- one more note, one more bar
+
+pub notes_more : {form : Form} {count number : ℕ} {before bytes bytes' : List ℕ} {s t u : Records note_size} → NotesRead form count number before s bytes t → (n : card.Note) → note_taken form bytes ≡ some (n, bytes') → Stores (note_words number n) t u
+    → NotesRead form (count + 1) number before s bytes' u
+unfolding notes_taken repeated each
+notes_more {form} {count} {number} {before} {bytes} {bytes'} {s} {t} {u} v n e w = record {
+  list = v.list ++ n ∷ [];
+  taken = rw (add-one, v.taken, e);
+  stored = append_as {b = each (note_words number) (v.list ++ n ∷ [])} (sym (each_append (note_words number) v.list (n ∷ []) ∙ rw append-nil)) (append_then v.stored w);
+}
+
+-- whether a card takes so many notes there
+pub within : (before count : ℕ) → 1 ≤ count → count ≤ note_limit - before → between 1 (note_limit - before) count ≡ true
+within before count low high = rw (le-leb 1 count low, le-leb count (note_limit - before) high)
+
+none-low : (a b count : ℕ) → count < a → between a b count ≡ false
+none-low a b count h = rw (lt-leb a count h)
+
+none-high : (a b count : ℕ) → b < count → between a b count ≡ false
+none-high a b count h = go (leb a count)
+  where
+    go : (t : Bool) → (t && leb count b) ≡ false
+    go true = lt-leb count b h
+    go false = refl
+
+pub bar_none : (form : Form) (before : ℕ) (bytes : List ℕ) → head_taken bytes ≡ none → bar_behind form before bytes ≡ none
+unfolding bar_behind
+bar_none form before bytes e = rw e
+
+module _ (form : Form) (before count : ℕ) (h : card.Head) (bytes rest : List ℕ) (head : head_taken bytes ≡ some ((count, h), rest)) where
+  bar_few : between 1 (note_limit - before) count ≡ false → bar_behind form before bytes ≡ none
+  unfolding bar_behind
+  bar_few e = rw (head, e)
+
+  pub bar_low : count < 1 → bar_behind form before bytes ≡ none
+  bar_low k = bar_few (none-low 1 (note_limit - before) count k)
+
+  pub bar_high : note_limit - before < count → bar_behind form before bytes ≡ none
+  bar_high k = bar_few (none-high 1 (note_limit - before) count k)
+
+  module _ (fits : between 1 (note_limit - before) count ≡ true) where
+    pub bar_stops : notes_taken form count rest ≡ none → bar_behind form before bytes ≡ none
+    unfolding bar_behind
+    bar_stops e = rw (head, fits, e)
+
+    pub bar_is : (list : List card.Note) (behind : List ℕ) → notes_taken form count rest ≡ some (list, behind) → bar_behind form before bytes ≡ some (record { head = h; notes = list }, behind)
+    unfolding bar_behind
+    bar_is list behind e = rw (head, fits, e)
+
+pub bars_more : {form : Form} {count : ℕ} {before bytes bytes' : List ℕ} {s t u : Records note_size} {s' t' u' : Records bar_size} {counts counts' : CardCounts}
+    → BarsRead form count before s s' counts bytes t t' → BarRead form counts bytes t t' counts' bytes' u u' → BarsRead form (count + 1) before s s' counts' bytes' u u'
+unfolding bars_taken repeated
+bars_more {form} {count} {before} {bytes} {bytes'} {s} {t} {u} {s'} {t'} {u'} {counts} {counts'} v w =
+    let one : bar_behind form (note_count v.list) bytes ≡ some (w.bar, bytes') = ap (λ (k : ℕ). bar_behind form k bytes) (sym v.notes_are) ∙ w.taken in
+    let size : length v.list ≡ count = (bars_sound form count before (v.list, bytes) v.taken).0 in
+    let number : counts.bars + 1 ≡ 1 + length v.list = omega (arith, v.bars_are, size) in
+    let first : counts.notes ≡ 0 + note_count v.list = omega (arith, v.notes_are) in
+    record {
+      list = v.list ++ w.bar ∷ [];
+      taken = rw (add-one, v.taken, one);
+      notes_are = w.notes_are ∙ ap (λ (k : ℕ). k + length w.bar.notes) v.notes_are ∙ sym (note-count-more form v.list w.bar);
+      bars_are = omega (arith, w.bars_are, v.bars_are);
+      notes_stored = append_as ((λ i. note_cells 1 v.list ++ each (note_words (number i)) w.bar.notes) ∙ sym (note_cells_more 1 v.list w.bar)) (append_then v.notes_stored w.notes_stored);
+      bars_stored = append_as ((λ i. bar_cells 0 v.list ++ bar_words (first i) w.bar) ∙ sym (bar_cells_more 0 v.list w.bar)) (append_then v.bars_stored w.bars_stored);
+    }

@@ -1,8 +1,8 @@
 -- What is read back from a card: the answer, and what each step stores in lent records. Assumes nothing.
-use Rattle.std.specs.Prelude.{ℕ, suc, ◌+◌, ◌*◌, ◌≤◌, ◌≡◌, List, ℤ, length, Result, Ok, Err, MatchResult}
+use Rattle.std.specs.Prelude.{ℕ, ◌+◌, ◌*◌, ◌≤◌, ◌≡◌, List, ℤ, length, Result, Ok, Err, MatchResult}
 use Rattle.std.proofs.Math.Option.{none, some}
 use Rattle.rules.specs.Limits.{note_size, bar_size}
-use Rattle.rules.specs.Words.{zeros}
+use Rattle.stores.specs.declared.cells.Records.{Records}
 use Rattle.stores.specs.Cells.{written}
 use Rattle.cards.specs.Fields.{each}
 use Rattle.cards.specs.Card.{Note, Bar, Form, note_count}
@@ -26,40 +26,38 @@ pub record Appends (words cells : List ℤ) (at : ℕ) (cells' : List ℤ) (at' 
   pub stored : at + length words ≤ length cells → cells' ≡ written cells at words
   pub next : at + length words ≤ length cells → at' ≡ at + length words
 
--- lent records: their cells, and how many are stored
-pub record Lent : Type 0 where
-  pub cells : List ℤ
-  pub count : ℕ
-
-abbrev pub StoresNotes : List ℤ → Lent → Lent → Type 0
-StoresNotes words s t = Appends words s.cells (s.count * note_size) t.cells (t.count * note_size)
-
-abbrev pub StoresBars : List ℤ → Lent → Lent → Type 0
-StoresBars words s t = Appends words s.cells (s.count * bar_size) t.cells (t.count * bar_size)
+-- words stored behind the records that are there, where they fit
+abbrev pub Stores : {size : ℕ} → List ℤ → Records size → Records size → Type 0
+Stores {size} words s t = Appends words s.cells.now (s.count * size) t.cells.now (t.count * size)
 
 -- so many notes of bar `number` at the front, and they are stored
-pub record NotesRead (form : Form) (count number : ℕ) (before : List ℕ) (s : Lent) (behind : List ℕ) (t : Lent) : Type 0 where
+pub record NotesRead (form : Form) (count number : ℕ) (before : List ℕ) (s : Records note_size)
+    (behind : List ℕ) (t : Records note_size) : Type 0 where
   pub list : List Note
   pub taken : notes_taken form count before ≡ some (list, behind)
-  pub stored : StoresNotes (each (note_words number) list) s t
+  pub stored : Stores (each (note_words number) list) s t
 
 -- a bar behind those that are counted, and it is stored
-pub record BarRead (form : Form) (counts : CardCounts) (before : List ℕ) (notes bars : Lent) (counts' : CardCounts) (behind : List ℕ) (notes' bars' : Lent) : Type 0 where
+pub record BarRead (form : Form) (counts : CardCounts)
+    (before : List ℕ) (notes : Records note_size) (bars : Records bar_size) (counts' : CardCounts)
+    (behind : List ℕ) (notes' : Records note_size) (bars' : Records bar_size) : Type 0 where
   pub bar : Bar
   pub taken : bar_behind form counts.notes before ≡ some (bar, behind)
-  pub note_count : counts'.notes ≡ counts.notes + length bar.notes
-  pub bar_count : counts'.bars ≡ suc counts.bars
-  pub note_cells : StoresNotes (each (note_words (suc counts.bars)) bar.notes) notes notes'
-  pub bar_cells : StoresBars (bar_words counts.notes bar) bars bars'
+  pub notes_are : counts'.notes ≡ counts.notes + length bar.notes
+  pub bars_are : counts'.bars ≡ counts.bars + 1
+  pub notes_stored : Stores (each (note_words (counts.bars + 1)) bar.notes) notes notes'
+  pub bars_stored : Stores (bar_words counts.notes bar) bars bars'
 
 -- so many bars, and they are stored
-pub record BarsRead (form : Form) (count : ℕ) (before : List ℕ) (notes bars : Lent) (counts : CardCounts) (behind : List ℕ) (notes' bars' : Lent) : Type 0 where
+pub record BarsRead (form : Form) (count : ℕ)
+    (before : List ℕ) (notes : Records note_size) (bars : Records bar_size) (counts : CardCounts)
+    (behind : List ℕ) (notes' : Records note_size) (bars' : Records bar_size) : Type 0 where
   pub list : List Bar
   pub taken : bars_taken form count before ≡ some (list, behind)
-  pub note_count : counts.notes ≡ note_count list
-  pub bar_count : counts.bars ≡ count
-  pub note_cells : StoresNotes (note_cells 1 list) notes notes'
-  pub bar_cells : StoresBars (bar_cells 0 list) bars bars'
+  pub notes_are : counts.notes ≡ note_count list
+  pub bars_are : counts.bars ≡ count
+  pub notes_stored : Stores (note_cells 1 list) notes notes'
+  pub bars_stored : Stores (bar_cells 0 list) bars bars'
 
 -- the whole card is read and stored in cleared cells; or its refusal, before the cells are cleared again
 abbrev pub ReadsCard : Form → List ℕ → Result CardCounts CardError → List ℤ → List ℤ → Type 0

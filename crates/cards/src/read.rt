@@ -125,9 +125,7 @@ impl<'a> CardReader<'a> {
         ensures same { notes.new.cells.ghost_name ≡ notes.old.cells.ghost_name }
         ensures sized { length notes.new.cells.now ≡ length notes.old.cells.now }
         ensures read { MatchResult result
-            (λ _. NotesRead W.form count number
-                self.old (record { cells = notes.old.cells.now; count = notes.old.count })
-                self.new (record { cells = notes.new.cells.now; count = notes.new.count }))
+            (λ _. NotesRead W.form count number self.old notes.old self.new notes.new)
             (λ _. notes_taken W.form count self.old ≡ none) }
     {
         for _ in 0..count {
@@ -151,10 +149,7 @@ impl<'a> CardReader<'a> {
         ensures bar_room { length bars.new.cells.now ≡ length bars.old.cells.now }
         ensures read { MatchResult result
             (λ after. BarRead W.form counts
-                self.old (record { cells = notes.old.cells.now; count = notes.old.count })
-                (record { cells = bars.old.cells.now; count = bars.old.count }) after
-                self.new (record { cells = notes.new.cells.now; count = notes.new.count })
-                (record { cells = bars.new.cells.now; count = bars.new.count }))
+                self.old notes.old bars.old after self.new notes.new bars.new)
             (λ _. bar_behind W.form counts.notes self.old ≡ none) }
     {
         let (count, head) = self.head()?;
@@ -186,10 +181,7 @@ impl<'a> CardReader<'a> {
         ensures bar_room { length bars.new.cells.now ≡ length bars.old.cells.now }
         ensures read { MatchResult result
             (λ counts. BarsRead W.form count
-                self.old (record { cells = notes.old.cells.now; count = notes.old.count })
-                (record { cells = bars.old.cells.now; count = bars.old.count }) counts
-                self.new (record { cells = notes.new.cells.now; count = notes.new.count })
-                (record { cells = bars.new.cells.now; count = bars.new.count }))
+                self.old notes.old bars.old counts self.new notes.new bars.new)
             (λ _. bars_taken W.form count self.old ≡ none) }
     {
         let mut counts = CardCounts { notes: 0, bars: 0 };
