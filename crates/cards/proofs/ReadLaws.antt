@@ -1,7 +1,7 @@
 -- What is stored of a card that is read, step by step. Assumes nothing.
-use Prim.Native.Nat.{ℕ, zero, suc, ◌+◌, ◌-◌, ◌*◌, ◌<◌, ◌≤◌}
+use Prim.Native.Nat.{ℕ, zero, suc, ◌+◌, ◌-◌, ◌*◌, ◌^◌, ◌<◌, ◌≤◌}
 use native.Mathlib.Omega.{arith}
-use native.Mathlib.Nat.{add-zero, zero-add, suc-mul, lt_of_not-le}
+use native.Mathlib.Nat.{add-zero, zero-add, zero-mul, suc-mul, lt_of_not-le}
 use native.Mathlib.Numerals.{add-one}
 use mathlib.Core.Path.{◌≡◌, refl, ap, sym, ◌∙◌}
 use mathlib.Core.Bool.{Bool, true, false, false≢true, ◌&&◌}
@@ -11,11 +11,11 @@ use lib.IntN.{ℤ, pos}
 use lib.ListN as lists
 use lib.ListN.{length, take, drop, length-append, length-drop, length-replicate, take-append-drop}
 use lib.Seq.{take_at, drop_at, drop-drop, length-take-le}
-use lib.Dec.{leb}
-use borrow.Author.Tests.{leb-true, le-leb, lt-leb}
+use lib.Dec.{eqb, leb}
+use borrow.Author.Tests.{leb-true, le-leb, lt-leb, eq-eqb, ne_eqb, lt-ltb}
 use denote.Ref.{MutBor}
 use borrow.Rule.Slice.PartMut.{put_mid}
-use Rattle.std.specs.Prelude.{◌↔◌, Option, Some, None, Result, Ok, Err, IsErr, OnOk, OnErr}
+use Rattle.std.specs.Prelude.{◌↔◌, Option, Some, None, Result, Ok, Err, is_err, IsErr, OnOk, OnErr}
 use Rattle.std.proofs.lemmas.List.{length-map}
 use Rattle.rules.specs.Limits.{note_limit, note_size, bar_size, first_pitch, pitch_size, pitch_capacity}
 use Rattle.std.proofs.lemmas.Bool.{and_parts}
@@ -39,14 +39,18 @@ use Rattle.cards.specs.Values.{clef_value, symbol_value, key_value, numerator_of
 use Rattle.cards.specs.declared.notes.Pitch.{Pitch}
 use Rattle.cards.specs.declared.notes.Note.{Note}
 use Rattle.cards.specs.declared.read.CardCounts.{CardCounts}
-use Rattle.cards.specs.Taken.{note_taken, notes_taken, head_taken, bar_behind, bars_taken, repeated}
+use Rattle.cards.specs.Taken.{byte_taken, number_taken, note_taken, notes_taken, head_taken, bar_behind, bars_taken, front_taken, card_taken, repeated}
 use Rattle.cards.specs.declared.heads.Head.{Head}
 use Rattle.cards.proofs.FieldLaws.{all_hold}
 use Rattle.cards.proofs.PartLaws.{each_append}
 use Rattle.cards.proofs.SuchLaws.{length-pitches}
 use Rattle.cards.proofs.ValueLaws.{length_pitches, each_taken, every_taken}
-use Rattle.cards.proofs.CardTaken.{bars_sound, note-count-more}
-use Rattle.cards.specs.ReadBack.{Appends, Stores, NotesRead, BarRead, BarsRead}
+use Rattle.cards.proofs.CardTaken.{bars_sound, card_sound, card_found, note-count-more}
+use Rattle.cards.proofs.RecordLaws.{such-bars, length-note-cells, length-bar-cells}
+use Rattle.cards.specs.ReadBack.{read_back, Appends, Stores, IsCleared, NotesRead, BarRead, BarsRead, CardRead, ReadsCard}
+use Rattle.cards.specs.Answers.{Read, read_refused, read_of, ReadBack}
+use Rattle.cards.specs.Errors.{error_number}
+use Rattle.cards.specs.declared.error.CardError.{CardError}
 
 -- ---- words stored behind others
 
@@ -144,7 +148,7 @@ pub pitch_place : (form : Form) (n : Note) (blank : Pitch) (i : ℕ) → such_no
 unfolding such_pitch
 pitch_place form n blank i h k =
     let qs = n.pitches in
-    let q = lists.get_or qs.list i none in
+    let q = lists.get_or qs.list i blank in
     let such = every_taken card_pitch (such_pitch form) blank qs.list qs.count i k (omega (arith, qs.few, qs.whole)) (note_pitches form (card_note n) h) in
     let t = all_hold (pitch_tests form (card_pitch q)) such in
     leb-true q.place form.greatest (and_parts (leb 1 q.place) (leb q.place form.greatest) t.0).1
@@ -261,3 +265,95 @@ bars_more {form} {count} {before} {bytes} {bytes'} {s} {t} {u} {s'} {t'} {u'} {c
       notes_stored = append_as ((λ i. note_cells 1 v.list ++ each (note_words (number i)) w.bar.notes) ∙ sym (note_cells_more 1 v.list w.bar)) (append_then v.notes_stored w.notes_stored);
       bars_stored = append_as ((λ i. bar_cells 0 v.list ++ bar_words (first i) w.bar) ∙ sym (bar_cells_more 0 v.list w.bar)) (append_then v.bars_stored w.bars_stored);
     }
+
+-- ---- the card
+
+module _ (form : Form) (bytes : List ℕ) where
+  pub no_byte : byte_taken bytes ≡ none → card_taken form bytes ≡ none
+  unfolding card_taken front_taken
+  no_byte e = rw e
+
+  module _ (first : ℕ) (r0 : List ℕ) (byte : byte_taken bytes ≡ some (first, r0)) where
+    pub other_first : (first ≡ form.first → ⊥) → card_taken form bytes ≡ none
+    unfolding card_taken front_taken
+    other_first not = rw (byte, ne_eqb first form.first not)
+
+    module _ (same : first ≡ form.first) where
+      pub no_count : number_taken 4 r0 ≡ none → card_taken form bytes ≡ none
+      unfolding card_taken front_taken
+      no_count e = rw (byte, eq-eqb first form.first same, e)
+
+      module _ (count : ℕ) (r1 : List ℕ) (four : number_taken 4 r0 ≡ some (count, r1)) where
+        pub zero_count : count ≡ 0 → card_taken form bytes ≡ none
+        unfolding card_taken front_taken
+        zero_count z = rw (byte, eq-eqb first form.first same, four, z)
+
+        module _ (some_bar : 0 < count) where
+          pub no_bars : bars_taken form count r1 ≡ none → card_taken form bytes ≡ none
+          unfolding card_taken front_taken
+          no_bars e = rw (byte, eq-eqb first form.first same, four, lt-ltb 0 count some_bar, e)
+
+          module _ (list : List Bar) (r2 : List ℕ) (bars : bars_taken form count r1 ≡ some (list, r2)) where
+            pub bytes_left : eqb (length r2) 0 ≡ false → card_taken form bytes ≡ none
+            unfolding card_taken front_taken
+            bytes_left e = rw (byte, eq-eqb first form.first same, four, lt-ltb 0 count some_bar, bars, e)
+
+            pub is_card : eqb (length r2) 0 ≡ true → card_taken form bytes ≡ some list
+            unfolding card_taken front_taken
+            is_card e = rw (byte, eq-eqb first form.first same, four, lt-ltb 0 count some_bar, bars, e)
+
+-- ---- the answer
+
+pub no_card : (form : Form) (bytes : List ℕ) (notes bars : ℕ) → card_taken form bytes ≡ none → read_refused 14 notes bars ≡ read_of notes bars (card_taken form bytes)
+no_card form bytes notes bars e = rw e
+
+-- words stored in cleared cells
+stored_first : {size : ℕ} {words : List ℤ} {s t : Records size} → Stores words s t → IsCleared s → length words ≤ length t.cells.now → t.cells.now ≡ padded (length t.cells.now) words
+stored_first {size} {words} {s} {t} v z h =
+    let at : s.count * size ≡ 0 = ap (λ (k : ℕ). k * size) z.empty ∙ zero-mul size in
+    v.stored (omega (arith, at, h, v.sized)) ∙ (λ i. written (z.blank i) (at i) words) ∙ written_cleared (length s.cells.now) words ∙ ap (λ (k : ℕ). padded k words) (sym v.sized)
+
+module _ {form : Form} {bytes : List ℕ} {s t : Records note_size} {s' t' : Records bar_size} {counts : CardCounts} (v : CardRead form bytes s s' counts t t') where
+  note_length : length (note_cells 1 v.list) ≡ counts.notes * note_size
+  note_length = length-note-cells form 1 v.list (such-bars form v.list (card_sound form bytes v.list v.taken).are) ∙ ap (λ (k : ℕ). k * note_size) (sym v.notes_are)
+
+  bar_length : length (bar_cells 0 v.list) ≡ counts.bars * bar_size
+  bar_length = length-bar-cells 0 v.list ∙ ap (λ (k : ℕ). k * bar_size) (sym v.bars_are)
+
+  abbrev pub answer : Read
+  answer = read_of (length t.cells.now) (length t'.cells.now) (card_taken form bytes)
+
+  pub few_notes : length t.cells.now < counts.notes * note_size → read_refused 15 (length t.cells.now) (length t'.cells.now) ≡ answer
+  few_notes h = rw (v.taken, lt-leb (length (note_cells 1 v.list)) (length t.cells.now) (omega (arith, note_length, h)))
+
+  module _ (notes : counts.notes * note_size ≤ length t.cells.now) where
+    room : leb (length (note_cells 1 v.list)) (length t.cells.now) ≡ true
+    room = le-leb (length (note_cells 1 v.list)) (length t.cells.now) (omega (arith, note_length, notes))
+
+    pub few_bars : length t'.cells.now < counts.bars * bar_size → read_refused 15 (length t.cells.now) (length t'.cells.now) ≡ answer
+    few_bars h = rw (v.taken, room, lt-leb (length (bar_cells 0 v.list)) (length t'.cells.now) (omega (arith, bar_length, h)))
+
+    pub all_stored : IsCleared s → IsCleared s' → counts.bars * bar_size ≤ length t'.cells.now → read_back (Ok counts) t.cells.now t'.cells.now ≡ answer
+    all_stored z z' h =
+        let n = stored_first v.notes_stored z (omega (arith, note_length, notes)) in
+        let b = stored_first v.bars_stored z' (omega (arith, bar_length, h)) in
+        rw (v.taken, room, le-leb (length (bar_cells 0 v.list)) (length t'.cells.now) (omega (arith, bar_length, h))) (λ i. record { number = 0; notes = v.notes_are i; bars = v.bars_are i; note_cells = n i; bar_cells = b i })
+
+-- cleared again after a refusal, or kept
+pub answered_err : {form : Form} {bytes : List ℕ} {n b : ℕ} {notes bars notes' bars' : List ℤ} (r : Result CardCounts CardError) → form.greatest < 256 ^ form.width → ReadsCard form bytes r notes bars → length notes ≡ n → length bars ≡ b → is_err r ≡ true
+    → notes' ≡ zeros (length notes) → bars' ≡ zeros (length bars) → ReadBack form bytes n b (read_back r notes' bars')
+answered_err {form} {bytes} {n} {b} {notes} {bars} (Ok counts) fits v e f is z y = absurd (false≢true is)
+answered_err {form} {bytes} {n} {b} {notes} {bars} (Err error) fits v e f is z y = record {
+  records = card_taken form bytes;
+  right = card_found form fits bytes;
+  equals = (λ i. record { number = error_number error; notes = 0; bars = 0; note_cells = z i; bar_cells = y i }) ∙ v ∙ (λ i. read_of (e i) (f i) (card_taken form bytes));
+}
+
+pub answered_ok : {form : Form} {bytes : List ℕ} {n b : ℕ} {notes bars notes' bars' : List ℤ} (r : Result CardCounts CardError) → form.greatest < 256 ^ form.width → ReadsCard form bytes r notes bars → length notes ≡ n → length bars ≡ b → is_err r ≡ false
+    → notes' ≡ notes → bars' ≡ bars → ReadBack form bytes n b (read_back r notes' bars')
+answered_ok {form} {bytes} {n} {b} {notes} {bars} (Err error) fits v e f is z y = absurd (false≢true (sym is))
+answered_ok {form} {bytes} {n} {b} {notes} {bars} (Ok counts) fits v e f is z y = record {
+  records = card_taken form bytes;
+  right = card_found form fits bytes;
+  equals = (λ i. record { number = 0; notes = counts.notes; bars = counts.bars; note_cells = z i; bar_cells = y i }) ∙ v ∙ (λ i. read_of (e i) (f i) (card_taken form bytes));
+}

@@ -2,6 +2,7 @@
 use Rattle.std.specs.Prelude.{ℕ, ◌+◌, ◌*◌, ◌≤◌, ◌≡◌, List, ℤ, length, Result, Ok, Err, MatchResult}
 use Rattle.std.proofs.Math.Option.{none, some}
 use Rattle.rules.specs.Limits.{note_size, bar_size}
+use Rattle.rules.specs.Words.{zeros}
 use Rattle.stores.specs.declared.cells.Records.{Records}
 use Rattle.stores.specs.Cells.{written}
 use Rattle.cards.specs.Fields.{each}
@@ -58,6 +59,22 @@ pub record BarsRead (form : Form) (count : ℕ)
   pub bars_are : counts.bars ≡ count
   pub notes_stored : Stores (note_cells 1 list) notes notes'
   pub bars_stored : Stores (bar_cells 0 list) bars bars'
+
+-- a whole card, and its records are stored
+pub record CardRead (form : Form)
+    (card : List ℕ) (notes : Records note_size) (bars : Records bar_size) (counts : CardCounts)
+    (notes' : Records note_size) (bars' : Records bar_size) : Type 0 where
+  pub list : List Bar
+  pub taken : card_taken form card ≡ some list
+  pub notes_are : counts.notes ≡ note_count list
+  pub bars_are : counts.bars ≡ length list
+  pub notes_stored : Stores (note_cells 1 list) notes notes'
+  pub bars_stored : Stores (bar_cells 0 list) bars bars'
+
+-- no record in cleared cells
+pub record IsCleared {size : ℕ} (s : Records size) : Type 0 where
+  pub blank : s.cells.now ≡ zeros (length s.cells.now)
+  pub empty : s.count ≡ 0
 
 -- the whole card is read and stored in cleared cells; or its refusal, before the cells are cleared again
 abbrev pub ReadsCard : Form → List ℕ → Result CardCounts CardError → List ℤ → List ℤ → Type 0

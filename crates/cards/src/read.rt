@@ -2,7 +2,7 @@
 ghost use Rattle.std.specs.Prelude.{◌≡◌, ◌≤◌, ◌<◌, ◌*◌, true, length, take, MatchResult};
 ghost use Rattle.std.proofs.Math.Option.{none, get_or};
 ghost use Rattle.rules.specs.Limits.{note_limit, first_pitch};
-ghost use Rattle.rules.specs.Words.{zeros, key_words};
+ghost use Rattle.rules.specs.Words.{key_words};
 ghost use Rattle.stores.specs.Cells.{word_limit};
 ghost use Rattle.stores.specs.Bars.{fifths_in, numbers_of, bar_numbers};
 ghost use Rattle.cards.specs.Card.{such_note};
@@ -10,8 +10,8 @@ ghost use Rattle.cards.specs.Words.{pitch_words, note_words, head_words};
 ghost use Rattle.cards.specs.Values.{key_value, card_pitch, card_note, card_head};
 ghost use Rattle.cards.specs.Words as card;
 ghost use Rattle.cards.specs.Answers.{ReadBack};
-ghost use Rattle.cards.specs.Taken.{notes_taken, bar_behind, bars_taken};
-ghost use Rattle.cards.specs.ReadBack.{read_back, NotesRead, BarRead, BarsRead, ReadsCard};
+ghost use Rattle.cards.specs.Taken.{notes_taken, bar_behind, bars_taken, card_taken};
+ghost use Rattle.cards.specs.ReadBack.{read_back, IsCleared, NotesRead, BarRead, BarsRead, CardRead, ReadsCard};
 
 use super::error::CardError;
 use super::heads::Head;
@@ -191,21 +191,19 @@ impl<'a> CardReader<'a> {
         Ok(counts)
     }
 
-    // The whole card, stored in cleared records if there is room.
-    fn card<W: PlaceWidth>(
+    // The first byte, the bar count, the bars, and nothing behind them; the counts.
+    fn records<W: PlaceWidth>(
         &mut self,
         notes: &mut Notes<'_>,
         bars: &mut Bars<'_>,
     ) -> Result<CardCounts, CardError>
-        requires notes { notes.old.cells.now ≡ zeros (length notes.old.cells.now) }
-        requires no_note { notes.old.count ≡ 0 }
-        requires bars { bars.old.cells.now ≡ zeros (length bars.old.cells.now) }
-        requires no_bar { bars.old.count ≡ 0 }
         ensures same_notes { notes.new.cells.ghost_name ≡ notes.old.cells.ghost_name }
         ensures same_bars { bars.new.cells.ghost_name ≡ bars.old.cells.ghost_name }
         ensures note_room { length notes.new.cells.now ≡ length notes.old.cells.now }
         ensures bar_room { length bars.new.cells.now ≡ length bars.old.cells.now }
-        ensures read { ReadsCard W.form self.old result notes.new.cells.now bars.new.cells.now }
+        ensures read { MatchResult result
+            (λ counts. CardRead W.form self.old notes.old bars.old counts notes.new bars.new)
+            (λ _. card_taken W.form self.old ≡ none) }
     {
         if self.byte()? != W::first() {
             return Err(CardError::Invalid);
@@ -218,6 +216,26 @@ impl<'a> CardReader<'a> {
         if !self.is_done() {
             return Err(CardError::Invalid);
         }
+        Ok(counts)
+    }
+
+    // The whole card, stored in cleared records if there is room.
+    fn card<W: PlaceWidth>(
+        &mut self,
+        notes: &mut Notes<'_>,
+        bars: &mut Bars<'_>,
+    ) -> Result<CardCounts, CardError>
+        requires notes { IsCleared notes.old }
+        requires bars { IsCleared bars.old }
+        ensures same_notes { notes.new.cells.ghost_name ≡ notes.old.cells.ghost_name }
+        ensures same_bars { bars.new.cells.ghost_name ≡ bars.old.cells.ghost_name }
+        ensures note_room { length notes.new.cells.now ≡ length notes.old.cells.now }
+        ensures bar_room { length bars.new.cells.now ≡ length bars.old.cells.now }
+        ensures read { ReadsCard W.form self.old result notes.new.cells.now bars.new.cells.now }
+    {
+        let Ok(counts) = self.records::<W>(notes, bars) else {
+            return Err(CardError::Invalid);
+        };
         if notes.cells.len() < counts.notes as usize * NOTE {
             return Err(CardError::NoRoom);
         }

@@ -1,6 +1,6 @@
-use Rattle.std.proofs.Common.{arith, ap, sym, ◌∙◌, ◌≡◌, ◌+◌, ◌-◌, ◌*◌, List, ℤ, true, false}
-use borrow.Author.Tests.{le-leb}
-use Rattle.std.proofs.lemmas.Result.{MatchResult-from_err}
+use Rattle.std.proofs.Common.{arith, ap, sym, ◌∙◌, ◌≡◌, ◌+◌, ◌-◌, ◌*◌, length}
+use Rattle.std.proofs.lemmas.Result.{MatchResult-from_err, on_ok_weaker}
+use Rattle.stores.specs.Cells.{with_record}
 use Rattle.rules.specs.Limits.{note_limit, bar_size}
 use Rattle.cards.specs.Fields.{each, between}
 use Rattle.cards.specs.Values.{card_head}
@@ -39,7 +39,9 @@ returns-clause-read g c =
     let size = (notes_sound form count c.head.new.self (v.list, c.notes.new.self) v.taken).0 in
     let b = c.store.ensures in
     let words = head_words counts.notes count h in
-    let own = begun c.store.result bar_size words c.args.bars.now c.store.new.self (length-head-words counts.notes count h) b.full b.err ? b.counted in
+    let old = c.args.bars.now in
+    let stored = on_ok_weaker c.store.result (λ e. e ∙ ap (with_record bar_size old.cells.now old.count) c.bar.ensures.numbers) b.stored in
+    let own = begun c.store.result bar_size words old c.store.new.self (length-head-words counts.notes count h) b.full b.err stored b.counted in
     record {
       bar = record { head = h; notes = v.list };
       taken = bar_is form counts.notes count h c.args.self.now c.head.new.self c.in_ok-count.ensures (within counts.notes count (omega arith) (omega arith)) v.list c.notes.new.self v.taken;
