@@ -308,8 +308,8 @@ pub no_card : (form : Form) (bytes : List ℕ) (notes bars : ℕ) → card_taken
 no_card form bytes notes bars e = rw e
 
 -- words stored in cleared cells
-stored_first : {size : ℕ} {words : List ℤ} {s t : Records size} → Stores words s t → IsCleared s → length words ≤ length t.cells.now → t.cells.now ≡ padded (length t.cells.now) words
-stored_first {size} {words} {s} {t} v z h =
+stored_first : {size : ℕ} {words : List ℤ} (s t : Records size) → Stores words s t → IsCleared s → length words ≤ length t.cells.now → t.cells.now ≡ padded (length t.cells.now) words
+stored_first {size} {words} s t v z h =
     let at : s.count * size ≡ 0 = ap (λ (k : ℕ). k * size) z.empty ∙ zero-mul size in
     v.stored (omega (arith, at, h, v.sized)) ∙ (λ i. written (z.blank i) (at i) words) ∙ written_cleared (length s.cells.now) words ∙ ap (λ (k : ℕ). padded k words) (sym v.sized)
 
@@ -335,25 +335,25 @@ module _ {form : Form} {bytes : List ℕ} {s t : Records note_size} {s' t' : Rec
 
     pub all_stored : IsCleared s → IsCleared s' → counts.bars * bar_size ≤ length t'.cells.now → read_back (Ok counts) t.cells.now t'.cells.now ≡ answer
     all_stored z z' h =
-        let n = stored_first v.notes_stored z (omega (arith, note_length, notes)) in
-        let b = stored_first v.bars_stored z' (omega (arith, bar_length, h)) in
+        let n = stored_first s t v.notes_stored z (omega (arith, note_length, notes)) in
+        let b = stored_first s' t' v.bars_stored z' (omega (arith, bar_length, h)) in
         rw (v.taken, room, le-leb (length (bar_cells 0 v.list)) (length t'.cells.now) (omega (arith, bar_length, h))) (λ i. record { number = 0; notes = v.notes_are i; bars = v.bars_are i; note_cells = n i; bar_cells = b i })
 
 -- cleared again after a refusal, or kept
-pub answered_err : {form : Form} {bytes : List ℕ} {n b : ℕ} {notes bars notes' bars' : List ℤ} (r : Result CardCounts CardError) → form.greatest < 256 ^ form.width → ReadsCard form bytes r notes bars → length notes ≡ n → length bars ≡ b → is_err r ≡ true
-    → notes' ≡ zeros (length notes) → bars' ≡ zeros (length bars) → ReadBack form bytes n b (read_back r notes' bars')
-answered_err {form} {bytes} {n} {b} {notes} {bars} (Ok counts) fits v e f is z y = absurd (false≢true is)
-answered_err {form} {bytes} {n} {b} {notes} {bars} (Err error) fits v e f is z y = record {
-  records = card_taken form bytes;
-  right = card_found form fits bytes;
-  equals = (λ i. record { number = error_number error; notes = 0; bars = 0; note_cells = z i; bar_cells = y i }) ∙ v ∙ (λ i. read_of (e i) (f i) (card_taken form bytes));
+pub answered_err : {form : Form} {bytes card : List ℕ} {n b : ℕ} {notes' bars' : List ℤ} (notes bars : List ℤ) (r : Result CardCounts CardError) → form.greatest < 256 ^ form.width → ReadsCard form bytes r notes bars → bytes ≡ card → length notes ≡ n → length bars ≡ b → is_err r ≡ true
+    → notes' ≡ zeros (length notes) → bars' ≡ zeros (length bars) → ReadBack form card n b (read_back r notes' bars')
+answered_err {form} {bytes} {card} {n} {b} notes bars (Ok counts) fits v same e f is z y = absurd (false≢true is)
+answered_err {form} {bytes} {card} {n} {b} notes bars (Err error) fits v same e f is z y = record {
+  records = card_taken form card;
+  right = card_found form fits card;
+  equals = (λ i. record { number = error_number error; notes = 0; bars = 0; note_cells = z i; bar_cells = y i }) ∙ v ∙ (λ i. read_of (e i) (f i) (card_taken form (same i)));
 }
 
-pub answered_ok : {form : Form} {bytes : List ℕ} {n b : ℕ} {notes bars notes' bars' : List ℤ} (r : Result CardCounts CardError) → form.greatest < 256 ^ form.width → ReadsCard form bytes r notes bars → length notes ≡ n → length bars ≡ b → is_err r ≡ false
-    → notes' ≡ notes → bars' ≡ bars → ReadBack form bytes n b (read_back r notes' bars')
-answered_ok {form} {bytes} {n} {b} {notes} {bars} (Err error) fits v e f is z y = absurd (false≢true (sym is))
-answered_ok {form} {bytes} {n} {b} {notes} {bars} (Ok counts) fits v e f is z y = record {
-  records = card_taken form bytes;
-  right = card_found form fits bytes;
-  equals = (λ i. record { number = 0; notes = counts.notes; bars = counts.bars; note_cells = z i; bar_cells = y i }) ∙ v ∙ (λ i. read_of (e i) (f i) (card_taken form bytes));
+pub answered_ok : {form : Form} {bytes card : List ℕ} {n b : ℕ} {notes' bars' : List ℤ} (notes bars : List ℤ) (r : Result CardCounts CardError) → form.greatest < 256 ^ form.width → ReadsCard form bytes r notes bars → bytes ≡ card → length notes ≡ n → length bars ≡ b → is_err r ≡ false
+    → notes' ≡ notes → bars' ≡ bars → ReadBack form card n b (read_back r notes' bars')
+answered_ok {form} {bytes} {card} {n} {b} notes bars (Err error) fits v same e f is z y = absurd (false≢true (sym is))
+answered_ok {form} {bytes} {card} {n} {b} notes bars (Ok counts) fits v same e f is z y = record {
+  records = card_taken form card;
+  right = card_found form fits card;
+  equals = (λ i. record { number = 0; notes = counts.notes; bars = counts.bars; note_cells = z i; bar_cells = y i }) ∙ v ∙ (λ i. read_of (e i) (f i) (card_taken form (same i)));
 }

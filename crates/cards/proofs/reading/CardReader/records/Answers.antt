@@ -1,4 +1,4 @@
-use Rattle.std.proofs.Common.{arith, sym, ◌∙◌, ◌≡◌, ◌<◌}
+use Rattle.std.proofs.Common.{rules, arith, sym, ◌∙◌, ◌≡◌, ◌<◌}
 use Rattle.std.proofs.lemmas.Result.{MatchResult-from_err}
 use Rattle.cards.proofs.CardTaken.{bars_sound}
 use Rattle.cards.proofs.ReadLaws.{no_byte, other_first, no_count, zero_count, no_bars, bytes_left, is_card}
@@ -8,7 +8,7 @@ pub returns-in_err-byte-clause-read : goal.returns-in_err-byte-clause-read
 returns-in_err-byte-clause-read g c = MatchResult-from_err c.from_residual.result _ _ c.from_residual.ensures.0 (λ _. no_byte g.W.PlaceWidth.form c.args.self.now c.in_err-byte.ensures)
 
 pub returns-then-branch-first-clause-read : goal.returns-then-branch-first-clause-read
-returns-then-branch-first-clause-read g c = other_first g.W.PlaceWidth.form c.args.self.now c.in_ok-byte.field-0 c.byte.new.self c.in_ok-byte.ensures (λ e. ?)
+returns-then-branch-first-clause-read g c = other_first g.W.PlaceWidth.form c.args.self.now c.in_ok-byte.field-0 c.byte.new.self c.in_ok-byte.ensures (λ e. c.if-branch-first.true (e ∙ sym c.first.ensures))
 
 pub returns-in_err-count-clause-read : goal.returns-in_err-count-clause-read
 returns-in_err-count-clause-read g c = MatchResult-from_err c.from_residual-in_err-count.result _ _ c.from_residual-in_err-count.ensures.0 (λ _.
