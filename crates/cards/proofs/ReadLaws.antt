@@ -165,7 +165,7 @@ blank_written f b w words z at k e h m =
     let before : take at words ≡ f ++ b = ap (take at) whole ∙ take_at (f ++ b) (zeros z) at front in
     let behind : drop (at + length w) words ≡ zeros (z - k) =
     sym (drop-drop (length w) at words) ∙ ap (drop (length w)) (ap (drop at) whole ∙ drop_at (f ++ b) (zeros z) at front) ∙ blank-cleared z (length w) ∙ rw (length-replicate, m) in
-    put_written at k words w m ∙ (λ i. before i ++ (w ++ behind i)) ∙ rw (append_assoc, append_assoc)
+    put_written at k words w m ∙ (λ i. before i ++ (w ++ behind i)) ∙ append_assoc f b (w ++ zeros (z - k)) ∙ ap (λ x. f ++ x) (sym (append_assoc b w (zeros (z - k))))
 
 pub one_more_pitch : (bar i at k : ℕ) (n : Note) (blank : Pitch) (words w : List ℤ) → i < n.pitches.count → at ≡ 12 + i * 4 → k ≡ 4 → w ≡ pitch_words (card_pitch (lists.get_or n.pitches.list i blank))
     → words ≡ take first_pitch (note_words bar (card_note n)) ++ pitches_so_far n i → put_mid at k words w ≡ take first_pitch (note_words bar (card_note n)) ++ pitches_so_far n (i + 1)
@@ -215,40 +215,6 @@ notes_more {form} {count} {number} {before} {bytes} {bytes'} {s} {t} {u} v n e w
 pub within : (before count : ℕ) → 1 ≤ count → count ≤ note_limit - before → between 1 (note_limit - before) count ≡ true
 within before count low high = rw (le-leb 1 count low, le-leb count (note_limit - before) high)
 
-none-low : (a b count : ℕ) → count < a → between a b count ≡ false
-none-low a b count h = rw (lt-leb a count h)
-
-none-high : (a b count : ℕ) → b < count → between a b count ≡ false
-none-high a b count h = go (leb a count)
-  where
-    go : (t : Bool) → (t && leb count b) ≡ false
-    go true = lt-leb count b h
-    go false = refl
-
-pub bar_none : (form : Form) (before : ℕ) (bytes : List ℕ) → head_taken bytes ≡ none → bar_behind form before bytes ≡ none
-unfolding bar_behind
-bar_none form before bytes e = rw e
-
-module _ (form : Form) (before count : ℕ) (h : card.Head) (bytes rest : List ℕ) (head : head_taken bytes ≡ some ((count, h), rest)) where
-  bar_few : between 1 (note_limit - before) count ≡ false → bar_behind form before bytes ≡ none
-  unfolding bar_behind
-  bar_few e = rw (head, e)
-
-  pub bar_low : count < 1 → bar_behind form before bytes ≡ none
-  bar_low k = bar_few (none-low 1 (note_limit - before) count k)
-
-  pub bar_high : note_limit - before < count → bar_behind form before bytes ≡ none
-  bar_high k = bar_few (none-high 1 (note_limit - before) count k)
-
-  module _ (fits : between 1 (note_limit - before) count ≡ true) where
-    pub bar_stops : notes_taken form count rest ≡ none → bar_behind form before bytes ≡ none
-    unfolding bar_behind
-    bar_stops e = rw (head, fits, e)
-
-    pub bar_is : (list : List card.Note) (behind : List ℕ) → notes_taken form count rest ≡ some (list, behind) → bar_behind form before bytes ≡ some (record { head = h; notes = list }, behind)
-    unfolding bar_behind
-    bar_is list behind e = rw (head, fits, e)
-
 pub bars_more : {form : Form} {count : ℕ} {before bytes bytes' : List ℕ} {s t u : Records note_size} {s' t' u' : Records bar_size} {counts counts' : CardCounts}
     → BarsRead form count before s s' counts bytes t t' → BarRead form counts bytes t t' counts' bytes' u u' → BarsRead form (count + 1) before s s' counts' bytes' u u'
 unfolding bars_taken repeated
@@ -266,46 +232,7 @@ bars_more {form} {count} {before} {bytes} {bytes'} {s} {t} {u} {s'} {t'} {u'} {c
       bars_stored = append_as ((λ i. bar_cells 0 v.list ++ bar_words (first i) w.bar) ∙ sym (bar_cells_more 0 v.list w.bar)) (append_then v.bars_stored w.bars_stored);
     }
 
--- ---- the card
-
-module _ (form : Form) (bytes : List ℕ) where
-  pub no_byte : byte_taken bytes ≡ none → card_taken form bytes ≡ none
-  unfolding card_taken front_taken
-  no_byte e = rw e
-
-  module _ (first : ℕ) (r0 : List ℕ) (byte : byte_taken bytes ≡ some (first, r0)) where
-    pub other_first : (first ≡ form.first → ⊥) → card_taken form bytes ≡ none
-    unfolding card_taken front_taken
-    other_first not = rw (byte, ne_eqb first form.first not)
-
-    module _ (same : first ≡ form.first) where
-      pub no_count : number_taken 4 r0 ≡ none → card_taken form bytes ≡ none
-      unfolding card_taken front_taken
-      no_count e = rw (byte, eq-eqb first form.first same, e)
-
-      module _ (count : ℕ) (r1 : List ℕ) (four : number_taken 4 r0 ≡ some (count, r1)) where
-        pub zero_count : count ≡ 0 → card_taken form bytes ≡ none
-        unfolding card_taken front_taken
-        zero_count z = rw (byte, eq-eqb first form.first same, four, z)
-
-        module _ (some_bar : 0 < count) where
-          pub no_bars : bars_taken form count r1 ≡ none → card_taken form bytes ≡ none
-          unfolding card_taken front_taken
-          no_bars e = rw (byte, eq-eqb first form.first same, four, lt-ltb 0 count some_bar, e)
-
-          module _ (list : List Bar) (r2 : List ℕ) (bars : bars_taken form count r1 ≡ some (list, r2)) where
-            pub bytes_left : eqb (length r2) 0 ≡ false → card_taken form bytes ≡ none
-            unfolding card_taken front_taken
-            bytes_left e = rw (byte, eq-eqb first form.first same, four, lt-ltb 0 count some_bar, bars, e)
-
-            pub is_card : eqb (length r2) 0 ≡ true → card_taken form bytes ≡ some list
-            unfolding card_taken front_taken
-            is_card e = rw (byte, eq-eqb first form.first same, four, lt-ltb 0 count some_bar, bars, e)
-
 -- ---- the answer
-
-pub no_card : (form : Form) (bytes : List ℕ) (notes bars : ℕ) → card_taken form bytes ≡ none → read_refused 14 notes bars ≡ read_of notes bars (card_taken form bytes)
-no_card form bytes notes bars e = rw e
 
 -- words stored in cleared cells
 stored_first : {size : ℕ} {words : List ℤ} (s t : Records size) → Stores words s t → IsCleared s → length words ≤ length t.cells.now → t.cells.now ≡ padded (length t.cells.now) words
@@ -338,6 +265,8 @@ module _ {form : Form} {bytes : List ℕ} {s t : Records note_size} {s' t' : Rec
         let n = stored_first s t v.notes_stored z (omega (arith, note_length, notes)) in
         let b = stored_first s' t' v.bars_stored z' (omega (arith, bar_length, h)) in
         rw (v.taken, room, le-leb (length (bar_cells 0 v.list)) (length t'.cells.now) (omega (arith, bar_length, h))) (λ i. record { number = 0; notes = v.notes_are i; bars = v.bars_are i; note_cells = n i; bar_cells = b i })
+
+pub ruleset answers = (few_notes, few_bars, all_stored)
 
 -- cleared again after a refusal, or kept
 pub answered_err : {form : Form} {bytes card : List ℕ} {n b : ℕ} {notes' bars' : List ℤ} (notes bars : List ℤ) (r : Result CardCounts CardError) → form.greatest < 256 ^ form.width → ReadsCard form bytes r notes bars → bytes ≡ card → length notes ≡ n → length bars ≡ b → is_err r ≡ true

@@ -31,6 +31,11 @@ pub record Appends (words cells : List ℤ) (at : ℕ) (cells' : List ℤ) (at' 
 abbrev pub Stores : {size : ℕ} → List ℤ → Records size → Records size → Type 0
 Stores {size} words s t = Appends words s.cells.now (s.count * size) t.cells.now (t.count * size)
 
+-- the same lent cells
+pub record SameCells {size : ℕ} (s t : Records size) : Type 0 where
+  pub same_cells : t.cells.ghost_name ≡ s.cells.ghost_name
+  pub same_room : length t.cells.now ≡ length s.cells.now
+
 -- so many notes of bar `number` at the front, and they are stored
 pub record NotesRead (form : Form) (count number : ℕ) (before : List ℕ) (s : Records note_size)
     (behind : List ℕ) (t : Records note_size) : Type 0 where

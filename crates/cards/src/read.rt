@@ -11,7 +11,7 @@ ghost use Rattle.cards.specs.Values.{key_value, card_pitch, card_note, card_head
 ghost use Rattle.cards.specs.Words as card;
 ghost use Rattle.cards.specs.Answers.{ReadBack};
 ghost use Rattle.cards.specs.Taken.{notes_taken, bar_behind, bars_taken, card_taken};
-ghost use Rattle.cards.specs.ReadBack.{read_back, IsCleared, NotesRead, BarRead, BarsRead, CardRead, ReadsCard};
+ghost use Rattle.cards.specs.ReadBack.{read_back, SameCells, IsCleared, NotesRead, BarRead, BarsRead, CardRead, ReadsCard};
 
 use super::error::CardError;
 use super::heads::Head;
@@ -95,6 +95,7 @@ impl Head {
     }
 
     // The record of a bar with this head.
+    #[tactic(auto, using(crate::proofs::ReadLaws::bar_same))]
     fn bar(self, first: u32, count: u32) -> Bar
         requires { get_or (key_value self.key) 0 ≤ 14 }
         ensures numbers { bar_numbers (numbers_of result) ≡ head_words first count (card_head self) }
@@ -115,6 +116,7 @@ impl Head {
 
 impl<'a> CardReader<'a> {
     // So many notes, stored as those of bar `number` as far as there is room.
+    #[tactic(auto, unfolding(crate::specs::Taken::notes_taken, crate::specs::Taken::repeated))]
     fn notes<W: PlaceWidth>(
         &mut self,
         count: u32,
@@ -122,8 +124,7 @@ impl<'a> CardReader<'a> {
         notes: &mut Notes<'_>,
     ) -> Result<(), CardError>
         requires { number < word_limit }
-        ensures same { notes.new.cells.ghost_name ≡ notes.old.cells.ghost_name }
-        ensures sized { length notes.new.cells.now ≡ length notes.old.cells.now }
+        ensures same_notes { SameCells notes.old notes.new }
         ensures read { MatchResult result
             (λ _. NotesRead W.form count number self.old notes.old self.new notes.new)
             (λ _. notes_taken W.form count self.old ≡ none) }
@@ -136,6 +137,7 @@ impl<'a> CardReader<'a> {
     }
 
     // The next bar, stored as far as there is room; the counts with it.
+    #[tactic(auto, unfolding(crate::specs::Taken::bar_behind))]
     fn bar<W: PlaceWidth>(
         &mut self,
         counts: CardCounts,
@@ -143,10 +145,8 @@ impl<'a> CardReader<'a> {
         bars: &mut Bars<'_>,
     ) -> Result<CardCounts, CardError>
         requires { (counts.bars ≤ counts.notes) × (counts.notes ≤ note_limit) }
-        ensures same_notes { notes.new.cells.ghost_name ≡ notes.old.cells.ghost_name }
-        ensures same_bars { bars.new.cells.ghost_name ≡ bars.old.cells.ghost_name }
-        ensures note_room { length notes.new.cells.now ≡ length notes.old.cells.now }
-        ensures bar_room { length bars.new.cells.now ≡ length bars.old.cells.now }
+        ensures same_notes { SameCells notes.old notes.new }
+        ensures same_bars { SameCells bars.old bars.new }
         ensures read { MatchResult result
             (λ after. BarRead W.form counts
                 self.old notes.old bars.old after self.new notes.new bars.new)
@@ -169,16 +169,15 @@ impl<'a> CardReader<'a> {
     }
 
     // So many bars, stored as far as there is room; their counts.
+    #[tactic(auto, unfolding(crate::specs::Taken::bars_taken, crate::specs::Taken::repeated))]
     fn bars<W: PlaceWidth>(
         &mut self,
         count: u32,
         notes: &mut Notes<'_>,
         bars: &mut Bars<'_>,
     ) -> Result<CardCounts, CardError>
-        ensures same_notes { notes.new.cells.ghost_name ≡ notes.old.cells.ghost_name }
-        ensures same_bars { bars.new.cells.ghost_name ≡ bars.old.cells.ghost_name }
-        ensures note_room { length notes.new.cells.now ≡ length notes.old.cells.now }
-        ensures bar_room { length bars.new.cells.now ≡ length bars.old.cells.now }
+        ensures same_notes { SameCells notes.old notes.new }
+        ensures same_bars { SameCells bars.old bars.new }
         ensures read { MatchResult result
             (λ counts. BarsRead W.form count
                 self.old notes.old bars.old counts self.new notes.new bars.new)
@@ -192,15 +191,14 @@ impl<'a> CardReader<'a> {
     }
 
     // The first byte, the bar count, the bars, and nothing behind them; the counts.
+    #[tactic(auto, unfolding(crate::specs::Taken::card_taken, crate::specs::Taken::front_taken))]
     fn records<W: PlaceWidth>(
         &mut self,
         notes: &mut Notes<'_>,
         bars: &mut Bars<'_>,
     ) -> Result<CardCounts, CardError>
-        ensures same_notes { notes.new.cells.ghost_name ≡ notes.old.cells.ghost_name }
-        ensures same_bars { bars.new.cells.ghost_name ≡ bars.old.cells.ghost_name }
-        ensures note_room { length notes.new.cells.now ≡ length notes.old.cells.now }
-        ensures bar_room { length bars.new.cells.now ≡ length bars.old.cells.now }
+        ensures same_notes { SameCells notes.old notes.new }
+        ensures same_bars { SameCells bars.old bars.new }
         ensures read { MatchResult result
             (λ counts. CardRead W.form self.old notes.old bars.old counts notes.new bars.new)
             (λ _. card_taken W.form self.old ≡ none) }
@@ -220,6 +218,7 @@ impl<'a> CardReader<'a> {
     }
 
     // The whole card, stored in cleared records if there is room.
+    #[tactic(auto, using(crate::proofs::ReadLaws::answers))]
     fn card<W: PlaceWidth>(
         &mut self,
         notes: &mut Notes<'_>,
@@ -227,10 +226,8 @@ impl<'a> CardReader<'a> {
     ) -> Result<CardCounts, CardError>
         requires notes { IsCleared notes.old }
         requires bars { IsCleared bars.old }
-        ensures same_notes { notes.new.cells.ghost_name ≡ notes.old.cells.ghost_name }
-        ensures same_bars { bars.new.cells.ghost_name ≡ bars.old.cells.ghost_name }
-        ensures note_room { length notes.new.cells.now ≡ length notes.old.cells.now }
-        ensures bar_room { length bars.new.cells.now ≡ length bars.old.cells.now }
+        ensures same_notes { SameCells notes.old notes.new }
+        ensures same_bars { SameCells bars.old bars.new }
         ensures read { ReadsCard W.form self.old result notes.new.cells.now bars.new.cells.now }
     {
         let Ok(counts) = self.records::<W>(notes, bars) else {

@@ -115,7 +115,7 @@ impl<'a> CardReader<'a> {
             return Err(CardError::Invalid);
         }
         let mut pitches = Pitches::new();
-        for i in 0..count {
+        for _ in 0..count {
             let pitch = self.pitch::<W>()?;
             pitches.push(pitch);
         }

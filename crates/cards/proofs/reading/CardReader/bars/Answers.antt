@@ -1,20 +1,19 @@
-use Rattle.std.proofs.Common.{arith, refl, ap, ◌∙◌, ◌≡◌, ◌+◌, ◌-◌, ◌*◌, [], sym, add-one}
+use Rattle.std.proofs.Common.{rules, arith, refl, ap, ◌∙◌, ◌≡◌, ◌+◌, ◌-◌, ◌*◌, [], sym, add-one}
 use mathlib.Core.Option.{none}
-use Rattle.std.proofs.lemmas.Result.{MatchResult-from_err}
 use Rattle.rules.specs.Limits.{note_size, bar_size}
 use Rattle.cards.specs.Card.{note_count}
 use Rattle.cards.specs.Words.{note_cells, bar_cells}
 use Rattle.cards.specs.Taken.{bar_behind, bar_taken, bars_taken, repeated}
 use Rattle.cards.proofs.CardTaken.{bars_sound}
-use Rattle.cards.proofs.TakenLaws.{none-behind}
+use Rattle.cards.proofs.TakenLaws.{stopped}
 use Rattle.cards.proofs.ReadLaws.{append_none, bars_more}
 use Rattle.cards.proofs.reading.CardReader.bars.Goals as goal
 
 pub loop-init : goal.loop-init
 unfolding bars_taken repeated note_count note_cells bar_cells
 loop-init g c = let n = c.args.notes.now in let b = c.args.bars.now in record {
-  same_notes = refl;
-  same_bars = refl;
+  same_notes = record { same_cells = refl; same_room = refl };
+  same_bars = record { same_cells = refl; same_room = refl };
   read = record { list = []; taken = refl; notes_are = refl; bars_are = refl; notes_stored = append_none n.cells.now (n.count * note_size); bars_stored = append_none b.cells.now (b.count * bar_size) };
 }
 
@@ -25,23 +24,17 @@ bar-requires g c =
     (omega (arith, v.bars_are, v.notes_are, s.0, s.2.some_each), omega (arith, v.notes_are, s.2.few))
 
 pub returns-in_err-counts-clause-read : goal.returns-in_err-counts-clause-read
-unfolding bars_taken repeated
+unfolding bars_taken
 returns-in_err-counts-clause-read g c =
     let form = g.W.PlaceWidth.form in
     let v = c.loop.invariant.read in
-    let i = c.loop.counter in
-    let no : bar_behind form (note_count v.list) c.loop.self ≡ none = ap (λ k. bar_behind form k c.loop.self) (sym v.notes_are) ∙ c.in_err-counts.ensures.read in
-    let stop : repeated (bar_taken form) (i + 1) c.args.self.now ≡ none = rw (add-one i, v.taken, no) in
-    let all = none-behind (bar_taken form) (i + 1) (c.args.count - (i + 1)) c.args.self.now stop in
-    let e : i + 1 + (c.args.count - (i + 1)) ≡ c.args.count = omega arith in
-    MatchResult-from_err c.from_residual.result _ _ c.from_residual.ensures.0 (λ _. rw e at all)
+    let one : bar_behind form (note_count v.list) c.loop.self ≡ none = ap (λ k. bar_behind form k c.loop.self) (sym v.notes_are) ∙ c.in_err-counts.ensures.read in
+    let no : bars_taken form c.args.count c.args.self.now ≡ none = stopped (bar_taken form) c.args.count c.loop.counter c.args.self.now (omega arith) v.taken one in
+    search rules
 
 pub loop-preserved : goal.loop-preserved
 loop-preserved g c = let v = c.loop.invariant in let b = c.in_ok-counts.ensures in record {
-  same_notes = c.bar.ensures.same_notes ∙ v.same_notes;
-  same_bars = c.bar.ensures.same_bars ∙ v.same_bars;
+  same_notes = search rules;
+  same_bars = search rules;
   read = bars_more v.read b.read;
 }
-
-pub returns-clause-read : goal.returns-clause-read
-returns-clause-read g c = let e : c.loop.counter ≡ c.args.count = omega arith in let v = c.loop.invariant.read in rw e at v
