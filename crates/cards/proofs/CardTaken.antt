@@ -16,7 +16,7 @@ use Rattle.cards.specs.Fields.{number, stands, under, bit_map, in_row, each, eve
 use Rattle.cards.specs.Pieces.{bit_in}
 use Rattle.cards.specs.Card.{Note, Head, Bar, Form, note_bytes, head_bits, head_bytes, bar_bytes, card_of, head_tests, such_note, such_head, bar_tests, such_bar, note_count, card_tests, such}
 use Rattle.cards.specs.Answers.{HasCard, Found}
-use Rattle.cards.specs.Taken.{Front, if_holds, byte_taken, number_taken, field_taken, key_taken, note_taken, notes_taken, head_in, counted, such_map, head_taken, bar_taken, bars_taken, front_taken, whole, card_taken}
+use Rattle.cards.specs.Taken.{Front, if_holds, byte_taken, number_taken, field_taken, key_taken, note_taken, notes_taken, head_in, counted, such_map, head_taken, bar_behind, bar_taken, bars_taken, front_taken, whole, card_taken}
 use Rattle.cards.proofs.FieldLaws.{all_hold, bit-read, stands-not}
 use Rattle.cards.proofs.TakenLaws.{taken_then, if_taken, byte_sound, number_sound, number_whole, field_sound, field_whole, TakenEach, repeated_sound, repeated_whole, taken_each, every_more}
 use Rattle.cards.proofs.NoteTaken.{note_sound, note_whole}
@@ -142,7 +142,7 @@ module _ (form : Form) where
   note-count-more (x ∷ l) b = omega (arith, note-count-more l b)
 
   pub bar_sound : (l : List Bar) (bytes : List ℕ) (y : Bar × List ℕ) → Counted l → bar_taken form l bytes ≡ some y → (bytes ≡ bar_bytes form y.0 ++ y.1) × Counted (l ++ y.0 ∷ [])
-  unfolding bar_taken bar_bytes such_bar holds
+  unfolding bar_behind bar_bytes such_bar holds
   bar_sound l bytes y h e =
       taken_then (head_taken bytes) _ e (λ opened r0 e0 k0.
       taken_then (if_holds (between 1 (note_limit - note_count l) opened.0) opened.0 r0) _ k0 (λ count r1 e1 k1.
@@ -202,7 +202,7 @@ module _ (form : Form) where
 
   module _ (fits : form.greatest < 256 ^ form.width) where
     bars-each : (before l : List Bar) → every (such_bar form) l ≡ true → note_count before + note_count l ≤ note_limit → TakenEach (bar_taken form) (bar_bytes form) before l
-    unfolding every note_count bar_taken bar_bytes such_bar notes_taken
+    unfolding every note_count bar_behind bar_bytes such_bar notes_taken
     bars-each before [] h n = tt
     bars-each before (b ∷ l) h n =
         let t = and_parts (such_bar form b) (every (such_bar form) l) h in

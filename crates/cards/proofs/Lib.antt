@@ -17,3 +17,4 @@ pub mod BitLaws
 pub mod WriteLaws
 pub mod SizeLaws
 pub mod AnswerLaws
+pub mod ReadLaws

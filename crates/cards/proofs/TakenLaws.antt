@@ -1,5 +1,5 @@
 -- What is taken from bytes is what they begin with, and what they begin with is taken. Assumes nothing.
-use Prim.Native.Nat.{ℕ, zero, suc, ◌+◌, ◌*◌, ◌/◌, ◌%◌, ◌^◌, ◌<◌}
+use Prim.Native.Nat.{ℕ, zero, suc, ◌+◌, ◌-◌, ◌*◌, ◌/◌, ◌%◌, ◌^◌, ◌<◌}
 use native.Mathlib.Omega.{arith}
 use native.Mathlib.Nat.{mod-add-div, div-lt_iff_lt-mul, add-mul-mod_self_left, add-mul-div_left, mod-eq_of_lt, div-eq_of_lt, pow-suc, zero-add, add-zero}
 use mathlib.Core.Path.{◌≡◌, refl, ap, sym, subst, ◌∙◌}
@@ -102,10 +102,18 @@ taken_each p g q whole l [] h = tt
 taken_each p g q whole l (x ∷ xs) h = let t = and_parts (q x) (every q xs) h in ((λ r. whole x r t.0), taken_each p g q whole (l ++ x ∷ []) xs t.1)
 
 -- none is taken behind a part that isn't
-pub none-behind : {A : Type 0} (p : List A → Taken A) (k j : ℕ) (bytes : List ℕ) → repeated p k bytes ≡ none → repeated p (k + j) bytes ≡ none
+none-behind : {A : Type 0} (p : List A → Taken A) (k j : ℕ) (bytes : List ℕ) → repeated p k bytes ≡ none → repeated p (k + j) bytes ≡ none
 unfolding repeated
 none-behind p k zero bytes e = rw add-zero e
 none-behind p k (suc j) bytes e = let m : k + suc j ≡ suc (k + j) = omega arith in rw (m, none-behind p k j bytes e)
+
+-- none are taken where one of them isn't
+pub stopped : {A : Type 0} (p : List A → Taken A) (count i : ℕ) (bytes : List ℕ) {r : List ℕ} {l : List A} → i < count → repeated p i bytes ≡ some (l, r) → p l r ≡ none → repeated p count bytes ≡ none
+unfolding repeated
+stopped p count i bytes h e f =
+    let all = none-behind p (suc i) (count - suc i) bytes (rw (e, f)) in
+    let k : suc i + (count - suc i) ≡ count = omega arith in
+    rw k at all
 
 -- one more that has what all have
 pub every_more : {A : Type 0} (p : A → Bool) (l : List A) (x : A) → every p l ≡ true → p x ≡ true → every p (l ++ x ∷ []) ≡ true

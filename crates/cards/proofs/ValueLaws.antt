@@ -27,7 +27,7 @@ key_back k = raised_of 7 k
 pub ruleset keys = (key_back)
 
 -- one more of the first ones
-pub each_taken : {A B : Type 0} (f : A → B) (g : B → List ℕ) (none : A) (l : List A) (i : ℕ) → i < length l → each g (map f (take (i + 1) l)) ≡ each g (map f (take i l)) ++ g (f (get_or l i none))
+pub each_taken : {A B C : Type 0} (f : A → B) (g : B → List C) (none : A) (l : List A) (i : ℕ) → i < length l → each g (map f (take (i + 1) l)) ≡ each g (map f (take i l)) ++ g (f (get_or l i none))
 unfolding each
 each_taken f g none l i h =
     let e : map f (take (i + 1) l) ≡ map f (take i l) ++ f (get_or l i none) ∷ [] = ap (map f) (take_more l i none h) ∙ map-append f (take i l) (get_or l i none ∷ []) in

@@ -12,3 +12,4 @@ pub mod Errors
 pub mod Places
 pub mod WordPitches
 pub mod Written
+pub mod ReadBack

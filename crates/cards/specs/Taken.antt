@@ -129,13 +129,17 @@ head_taken = do
 unfoldable pub notes_taken : Form → ℕ → Taken (List Note)
 notes_taken form count = repeated (λ _. note_taken form) count
 
--- a bar behind these, with a note count that a card takes there
-unfoldable pub bar_taken : Form → List Bar → Taken Bar
-bar_taken form before = do
+-- a bar behind so many notes, with a note count that a card takes there
+unfoldable pub bar_behind : Form → ℕ → Taken Bar
+bar_behind form before = do
   opened ← head_taken
-  count ← if_holds (between 1 (note_limit - note_count before) opened.0) opened.0
+  count ← if_holds (between 1 (note_limit - before) opened.0) opened.0
   notes ← notes_taken form count
   done (record { head = opened.1; notes = notes })
+
+-- a bar behind these
+abbrev pub bar_taken : Form → List Bar → Taken Bar
+bar_taken form before = bar_behind form (note_count before)
 
 unfoldable pub bars_taken : Form → ℕ → Taken (List Bar)
 bars_taken form count = repeated (bar_taken form) count

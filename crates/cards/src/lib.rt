@@ -5,6 +5,7 @@ pub mod error;
 mod heads;
 mod notes;
 mod numbers;
+pub mod read;
 mod reading;
 pub mod width;
 mod words;

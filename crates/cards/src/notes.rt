@@ -14,9 +14,6 @@ use stores::cells::{MAX_MARKS, MAX_PITCHES};
 use stores::note::NoteKind;
 use tokens::rhythm::{Duration, Length, Octave, Step, normal_of};
 
-/// A card holds at most so many notes.
-pub const MAX_NOTES: usize = 100_000;
-
 /// A pitch of a note; its alteration plus 2.
 #[derive(Clone, Copy, Debug, PartialEq, Eq)]
 pub struct Pitch {

@@ -115,7 +115,7 @@ impl<'a> CardReader<'a> {
             return Err(CardError::Invalid);
         }
         let mut pitches = Pitches::new();
-        for i in 0..count {
+        for _ in 0..count {
             let pitch = self.pitch::<W>()?;
             pitches.push(pitch);
         }
@@ -186,8 +186,8 @@ impl<'a> CardReader<'a> {
         Ok((count, head))
     }
 
-    /// Whether nothing is left.
-    fn is_done(&self) -> bool
+    // Whether nothing is left.
+    pub(crate) fn is_done(&self) -> bool
         ensures { result ≡ eqb (length self.now) 0 }
     {
         self.at == self.card.len()

@@ -6,11 +6,10 @@ ghost use Rattle.cards.specs.Written.{WritesBar, WritesBars, WritesRecords, Puts
 
 use super::error::CardError;
 use super::heads::Head;
-use super::notes::MAX_NOTES;
 use super::numbers::natural;
 use super::width::PlaceWidth;
 use super::writing::CardWriter;
-use stores::cells::{BAR, NOTE};
+use stores::cells::{BAR, MAX_NOTES, NOTE};
 
 impl<'a> CardWriter<'a> {
     // A bar of these words, its notes at the front of `notes`; how many they are.

@@ -4,8 +4,8 @@ use Rattle.cards.specs.Taken.{repeated, pitch_taken}
 use Rattle.cards.specs.Values.{card_pitches}
 use Rattle.cards.proofs.reading.CardReader.pitches.Given as goal
 
-abbrev pub invariant-loop-i : goal.invariant-loop-i
-invariant-loop-i g l = record {
-  taken : repeated (λ _. pitch_taken g.W.PlaceWidth.form) l.i l.initial.self ≡ some (card_pitches l.pitches, l.self);
-  counted : l.pitches.count ≡ l.i;
+abbrev pub invariant-loop : goal.invariant-loop
+invariant-loop g l = record {
+  taken : repeated (λ _. pitch_taken g.W.PlaceWidth.form) l.counter l.initial.self ≡ some (card_pitches l.pitches, l.self);
+  counted : l.pitches.count ≡ l.counter;
 }
