@@ -14,6 +14,7 @@ pub mod NumberLaws
 pub mod JudgeLaws
 pub mod ValueLaws
 pub mod BitLaws
+pub mod ChunkLaws
 pub mod WriteLaws
 pub mod SizeLaws
 pub mod AnswerLaws

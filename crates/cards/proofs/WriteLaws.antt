@@ -29,6 +29,7 @@ use Rattle.cards.specs.declared.writing.CardWriter.{CardWriter}
 use Rattle.cards.proofs.FieldLaws.{all_hold}
 use Rattle.cards.proofs.NumberLaws.{refused}
 use Rattle.cards.proofs.PartLaws.{length-parts}
+use Rattle.cards.proofs.ChunkLaws.{chunks, chunks_taken, chunks_cut}
 use Rattle.cards.proofs.PutLaws.{wrote_none, wrote_then, wrote_as}
 
 pub same_none : (s : CardWriter) → SameCard s s
@@ -40,20 +41,12 @@ same_then a b = record { same_card = b.same_card ∙ a.same_card; same_room = b.
 pub same_wrote : {x : List ℕ} {s t : CardWriter} → Wrote x s t → SameCard s t
 same_wrote w = record { same_card = w.same_card; same_room = w.same_room }
 
--- the records at the front
-pub parts_taken : {A B : Type 0} (f : List B → A) (size count : ℕ) (l : List B) → parts (λ w. f (take size w)) size count (take (count * size) l) ≡ parts (λ w. f (take size w)) size count l
-unfolding parts
-parts_taken f size zero l = refl
-parts_taken f size (suc count) l =
-    let e : suc count * size ≡ size + count * size = rw suc-mul (omega arith) in
-    rw (e, take-take size (size + count * size) l (omega arith), drop-take size (count * size) l, parts_taken f size count (drop size l))
-
 -- the first `count` notes' words are those that count
 pub front_notes : {A : Type 0} (f : List ℤ → A) (count : ℕ) (l : List ℤ) → count * note_size ≤ length l
-    → parts (λ v. f (take note_size v)) note_size (length (take (count * note_size) l) / note_size) (take (count * note_size) l) ≡ parts (λ v. f (take note_size v)) note_size count l
+    → chunks f note_size (length (take (count * note_size) l) / note_size) (take (count * note_size) l) ≡ chunks f note_size count l
 front_notes f count l h =
     let e : length (take (count * note_size) l) / note_size ≡ count = omega (arith, length-take-le (count * note_size) l h) in
-    rw (e, parts_taken f note_size count l)
+    rw (e, chunks_taken f note_size count l)
 
 -- ---- notes
 
@@ -67,9 +60,8 @@ module _ (form : Form) (bar : ℕ) where
   notes_end w t h = let e : length w / note_size ≡ 0 = omega arith in record { same = same_none t; wrote = rw e (refl, wrote_none t) }
 
   module _ (w x b : List ℤ) (cut : w ≡ x ++ b) (long : length x ≡ note_size) where
-    cut_notes : {A : Type 0} (f : List ℤ → A) → parts (λ v. f (take note_size v)) note_size (length w / note_size) w ≡ f x ∷ parts (λ v. f (take note_size v)) note_size (length b / note_size) b
-    unfolding parts
-    cut_notes f = let e : length w / note_size ≡ suc (length b / note_size) = omega (arith, ap length cut, length-append x b) in rw (e, cut, take_at x b note_size long, drop_at x b note_size long)
+    cut_notes : {A : Type 0} (f : List ℤ → A) → chunks f note_size (length w / note_size) w ≡ f x ∷ chunks f note_size (length b / note_size) b
+    cut_notes f = chunks_cut f note_size (omega arith) w x b cut long
 
     pub notes_one : such_words form bar x ≡ true → {s t : CardWriter} → Wrote (note_bytes form (note_of x)) s t → (r : Result Unit CardError) (u : CardWriter) → WritesNotes form bar b t r u → WritesNotes form bar w s r u
     unfolding every each

@@ -39,8 +39,8 @@ impl Note {
     {
         let count = usize::from(up_to(words[PITCH_COUNT], MAX_PITCHES as u8)?);
         let mut pitches = Pitches::new();
-        for i in 0..count {
-            let pitch = Pitch::of_words::<W>(&words[FIRST_PITCH + i * PITCH..])?;
+        for own in words[FIRST_PITCH..FIRST_PITCH + count * PITCH].chunks_exact(PITCH) {
+            let pitch = Pitch::of_words::<W>(own)?;
             pitches.push(pitch);
         }
         Ok(pitches)
