@@ -21,7 +21,7 @@ use super::width::PlaceWidth;
 use stores::bar::Bar;
 use stores::cells::{BAR, Bars, FIRST_PITCH, NOTE, Notes, PITCH};
 
-// A card has at most so many notes.
+// A card holds at most so many notes.
 const MAX_NOTES: u32 = 100_000;
 
 /// How many notes and bars a card has.
@@ -98,7 +98,8 @@ impl Head {
     #[tactic(auto, using(crate::proofs::ReadLaws::bar_same))]
     fn bar(self, first: u32, count: u32) -> Bar
         requires { get_or (key_value self.key) 0 ≤ 14 }
-        ensures numbers { bar_numbers (numbers_of result) ≡ head_words first count (card_head self) }
+        ensures numbers { bar_numbers (numbers_of result) ≡
+            head_words first count (card_head self) }
         ensures first { result.first ≡ first }
         ensures count { result.count ≡ count }
     {
@@ -149,7 +150,7 @@ impl<'a> CardReader<'a> {
         ensures same_bars { SameCells bars.old bars.new }
         ensures read { MatchResult result
             (λ after. BarRead W.form counts
-                self.old notes.old bars.old after self.new notes.new bars.new)
+            self.old notes.old bars.old after self.new notes.new bars.new)
             (λ _. bar_behind W.form counts.notes self.old ≡ none) }
     {
         let (count, head) = self.head()?;
@@ -180,7 +181,7 @@ impl<'a> CardReader<'a> {
         ensures same_bars { SameCells bars.old bars.new }
         ensures read { MatchResult result
             (λ counts. BarsRead W.form count
-                self.old notes.old bars.old counts self.new notes.new bars.new)
+            self.old notes.old bars.old counts self.new notes.new bars.new)
             (λ _. bars_taken W.form count self.old ≡ none) }
     {
         let mut counts = CardCounts { notes: 0, bars: 0 };
@@ -243,8 +244,10 @@ impl<'a> CardReader<'a> {
     }
 }
 
-/// Reads a card back into lent records of 44 and of 10 words: its counts; cells behind its records are 0.
-/// `Invalid` where it is no such card, then `NoRoom` where its records don't fit: every lent cell is 0.
+/// Reads a card back into lent words, 44 a note and 10 a bar; its counts.
+///
+/// `Invalid` where it is no such card, and else `NoRoom` where its records don't fit. The words
+/// behind the records are 0, after a refusal all of them.
 pub fn read_card<W: PlaceWidth>(
     card: &[u8],
     notes: &mut [i32],
