@@ -240,3 +240,22 @@ module _ (form : Form) where
     -- no two such records have one card
     pub card-alone : (l m : List Bar) → such form l ≡ true → such form m ≡ true → card_of form l ≡ card_of form m → l ≡ m
     card-alone l m h k e = let s = sym (card_whole l h) ∙ ap (card_taken form) e ∙ card_whole m k in cc
+
+    -- no two such notes have one run of bytes, and none begins another
+    pub note-alone : (n m : Note) (r s : List ℕ) → such_note form n ≡ true → such_note form m ≡ true → note_bytes form n ++ r ≡ note_bytes form m ++ s → (n ≡ m) × (r ≡ s)
+    note-alone n m r s h k e =
+        let p = sym (note_whole form fits n r h) ∙ ap (note_taken form) e ∙ note_whole form fits m s k in
+        let q : (n, r) ≡ (m, s) = cc in
+        (ap (λ (x : Note × List ℕ). x.0) q, ap (λ (x : Note × List ℕ). x.1) q)
+
+    bar-whole : (b : Bar) (r : List ℕ) → such_bar form b ≡ true → length b.notes ≤ note_limit → bar_taken form [] (bar_bytes form b ++ r) ≡ some (b, r)
+    unfolding every note_count
+    bar-whole b r h few = (bars-each [] (b ∷ []) (rw h refl) (omega (arith, few))).0 r
+
+    -- nor two such bars, with no more notes than a card takes
+    pub bar-alone : (b c : Bar) (r s : List ℕ) → such_bar form b ≡ true → length b.notes ≤ note_limit → such_bar form c ≡ true → length c.notes ≤ note_limit
+        → bar_bytes form b ++ r ≡ bar_bytes form c ++ s → (b ≡ c) × (r ≡ s)
+    bar-alone b c r s h few k less e =
+        let p = sym (bar-whole b r h few) ∙ ap (bar_taken form []) e ∙ bar-whole c s k less in
+        let q : (b, r) ≡ (c, s) = cc in
+        (ap (λ (x : Bar × List ℕ). x.0) q, ap (λ (x : Bar × List ℕ). x.1) q)

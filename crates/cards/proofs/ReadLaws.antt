@@ -1,18 +1,18 @@
 -- What is stored of a card that is read, step by step. Assumes nothing.
-use Prim.Native.Nat.{ℕ, zero, suc, ◌+◌, ◌-◌, ◌*◌, ◌^◌, ◌<◌, ◌≤◌}
+use Prim.Native.Nat.{ℕ, suc, ◌+◌, ◌-◌, ◌*◌, ◌^◌, ◌<◌, ◌≤◌}
 use native.Mathlib.Omega.{arith}
 use native.Mathlib.Nat.{add-zero, zero-add, zero-mul, suc-mul, lt_of_not-le}
 use native.Mathlib.Numerals.{add-one}
 use mathlib.Core.Path.{◌≡◌, refl, ap, sym, ◌∙◌}
-use mathlib.Core.Bool.{Bool, true, false, false≢true, ◌&&◌}
-use mathlib.Core.Option.{none, some, get_or}
+use mathlib.Core.Bool.{true, false, false≢true}
+use mathlib.Core.Option.{some, get_or}
 use mathlib.Core.List.{List, [], ◌∷◌, ◌++◌, map, append_assoc, append-nil}
 use lib.IntN.{ℤ, pos}
 use lib.ListN as lists
 use lib.ListN.{length, take, drop, length-append, length-drop, length-replicate, take-append-drop}
 use lib.Seq.{take_at, drop_at, drop-drop, length-take-le}
-use lib.Dec.{eqb, leb}
-use borrow.Author.Tests.{leb-true, le-leb, lt-leb, eq-eqb, ne_eqb, lt-ltb}
+use lib.Dec.{leb}
+use borrow.Author.Tests.{leb-true, le-leb, lt-leb}
 use denote.Ref.{MutBor}
 use borrow.Rule.Slice.PartMut.{put_mid}
 use Rattle.std.specs.Prelude.{◌↔◌, Option, Some, None, Result, Ok, Err, is_err, IsErr, OnOk, OnErr}
@@ -39,7 +39,7 @@ use Rattle.cards.specs.Values.{clef_value, symbol_value, key_value, numerator_of
 use Rattle.cards.specs.declared.notes.Pitch.{Pitch}
 use Rattle.cards.specs.declared.notes.Note.{Note}
 use Rattle.cards.specs.declared.read.CardCounts.{CardCounts}
-use Rattle.cards.specs.Taken.{byte_taken, number_taken, note_taken, notes_taken, head_taken, bar_behind, bars_taken, front_taken, card_taken, repeated}
+use Rattle.cards.specs.Taken.{note_taken, notes_taken, bar_behind, bars_taken, card_taken, repeated}
 use Rattle.cards.specs.declared.heads.Head.{Head}
 use Rattle.cards.proofs.FieldLaws.{all_hold}
 use Rattle.cards.proofs.PartLaws.{each_append}

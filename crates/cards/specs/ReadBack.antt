@@ -1,6 +1,6 @@
--- What is read back from a card: the answer, and what each step stores in lent records. Assumes nothing.
+-- What is read back from a card, and what each step stores in lent records. Assumes nothing.
 use Rattle.std.specs.Prelude.{ℕ, ◌+◌, ◌*◌, ◌≤◌, ◌≡◌, List, ℤ, length, Result, Ok, Err, MatchResult}
-use Rattle.std.proofs.Math.Option.{none, some}
+use Rattle.std.proofs.Math.Option.{some}
 use Rattle.rules.specs.Limits.{note_size, bar_size}
 use Rattle.rules.specs.Words.{zeros}
 use Rattle.stores.specs.declared.cells.Records.{Records}
@@ -16,10 +16,20 @@ use Rattle.cards.specs.declared.read.CardCounts.{CardCounts}
 
 -- the number, 0 where a card is read, the counts and the lent cells
 abbrev pub read_back : Result CardCounts CardError → List ℤ → List ℤ → Read
-read_back (Ok counts) notes bars =
-    record { number = 0; notes = counts.notes; bars = counts.bars; note_cells = notes; bar_cells = bars }
-read_back (Err error) notes bars =
-    record { number = error_number error; notes = 0; bars = 0; note_cells = notes; bar_cells = bars }
+read_back (Ok counts) notes bars = record {
+  number = 0;
+  notes = counts.notes;
+  bars = counts.bars;
+  note_cells = notes;
+  bar_cells = bars;
+}
+read_back (Err error) notes bars = record {
+  number = error_number error;
+  notes = 0;
+  bars = 0;
+  note_cells = notes;
+  bar_cells = bars;
+}
 
 -- words stored from cell `at` on, where they fit; more are stored from cell `at'` on
 pub record Appends (words cells : List ℤ) (at : ℕ) (cells' : List ℤ) (at' : ℕ) : Type 0 where
@@ -81,8 +91,13 @@ pub record IsCleared {size : ℕ} (s : Records size) : Type 0 where
   pub blank : s.cells.now ≡ zeros (length s.cells.now)
   pub empty : s.count ≡ 0
 
--- the whole card is read and stored in cleared cells; or its refusal, before the cells are cleared again
+-- the answer to this card, so much being lent as these cells are
+abbrev pub answer_to : Form → List ℕ → List ℤ → List ℤ → Read
+answer_to form card notes bars = read_of (length notes) (length bars) (card_taken form card)
+
+-- the whole card is read and stored; or its refusal, before the cells are cleared
 abbrev pub ReadsCard : Form → List ℕ → Result CardCounts CardError → List ℤ → List ℤ → Type 0
 ReadsCard form card r notes bars = MatchResult r
-    (λ counts. read_back (Ok counts) notes bars ≡ read_of (length notes) (length bars) (card_taken form card))
-    (λ error. read_refused (error_number error) (length notes) (length bars) ≡ read_of (length notes) (length bars) (card_taken form card))
+    (λ counts. read_back (Ok counts) notes bars ≡ answer_to form card notes bars)
+    (λ error. read_refused (error_number error) (length notes) (length bars)
+    ≡ answer_to form card notes bars)

@@ -1,4 +1,4 @@
--- What is taken from the front of a card's bytes, and the bytes behind it; none where no such thing stands there. No promise names it. Assumes nothing.
+-- What is taken from the front of a card's bytes, and the bytes behind it. No public promise names it. Assumes nothing.
 use Rattle.std.specs.Prelude.{ℕ, zero, suc, ◌+◌, ◌-◌, ◌*◌, ◌/◌, ◌%◌, Bool, true, false, cond, ◌&&◌, List, [], ◌∷◌, ◌++◌, length, eqb, leb, ltb}
 use Rattle.std.proofs.Math.Option.{Option, none, some}
 use Rattle.rules.specs.Limits.{note_limit, pitch_capacity}
@@ -66,7 +66,12 @@ repeated p (suc count) = do
 -- ---- pitches, notes, heads
 
 abbrev pub pitch_in : ℕ → ℕ → ℕ → Pitch
-pitch_in place tone alter = record { place = place; step = tone % 7; octave = tone / 7; alter = alter }
+pitch_in place tone alter = record {
+  place = place;
+  step = tone % 7;
+  octave = tone / 7;
+  alter = alter;
+}
 
 unfoldable pub pitch_taken : Form → Taken Pitch
 pitch_taken form = do
@@ -77,15 +82,26 @@ pitch_taken form = do
 
 -- not more than a record takes
 unfoldable pub pitches_taken : Form → ℕ → Taken (List Pitch)
-pitches_taken form count bytes = cond (leb count pitch_capacity) (repeated (λ _. pitch_taken form) count bytes) none
+pitches_taken form count bytes =
+    cond (leb count pitch_capacity) (repeated (λ _. pitch_taken form) count bytes) none
 
 -- the fields' bits are those of the map
 abbrev pub such_map : List Bool → ℕ → Bool
 such_map bits map = eqb (bit_map bits) map
 
 abbrev pub note_in : ℕ → ℕ → ℕ → ℕ → ℕ → ℕ → ℕ → ℕ → List Pitch → Note
-note_in place size kind ties beam actual mark_count marks pitches =
-    record { place = place; duration = size / 4; dots = size % 4; kind = kind; ties = ties; beam = beam; actual = actual; mark_count = mark_count; marks = marks; pitches = pitches }
+note_in place size kind ties beam actual mark_count marks pitches = record {
+  place = place;
+  duration = size / 4;
+  dots = size % 4;
+  kind = kind;
+  ties = ties;
+  beam = beam;
+  actual = actual;
+  mark_count = mark_count;
+  marks = marks;
+  pitches = pitches;
+}
 
 unfoldable pub note_taken : Form → Taken Note
 note_taken form = do
@@ -104,7 +120,15 @@ note_taken form = do
   if_holds (such_note form note && such_map (note_bits note) map) note
 
 abbrev pub head_in : ℕ → Option ℕ → ℕ → ℕ → ℕ → ℕ → ℕ → Head
-head_in clef key numerator denominator symbol left right = record { clef = clef; key = key; numerator = numerator; denominator = denominator; symbol = symbol; left = left; right = right }
+head_in clef key numerator denominator symbol left right = record {
+  clef = clef;
+  key = key;
+  numerator = numerator;
+  denominator = denominator;
+  symbol = symbol;
+  left = left;
+  right = right;
+}
 
 abbrev pub counted : ℕ → Head → ℕ × Head
 counted count head = (count, head)

@@ -95,7 +95,8 @@ impl Head {
     #[tactic(auto, using(crate::proofs::ReadLaws::bar_same))]
     fn bar(self, first: u32, count: u32) -> Bar
         requires { get_or (key_value self.key) 0 ≤ 14 }
-        ensures numbers { bar_numbers (numbers_of result) ≡ head_words first count (card_head self) }
+        ensures numbers { bar_numbers (numbers_of result) ≡
+            head_words first count (card_head self) }
         ensures first { result.first ≡ first }
         ensures count { result.count ≡ count }
     {
@@ -240,8 +241,10 @@ impl<'a> CardReader<'a> {
     }
 }
 
-/// Reads a card back into lent records of 44 and of 10 words: its counts; cells behind its records are 0.
-/// `Invalid` where it is no such card, then `NoRoom` where its records don't fit: every lent cell is 0.
+/// Reads a card back into lent words, 44 a note and 10 a bar; its counts.
+///
+/// `Invalid` where it is no such card, and else `NoRoom` where its records don't fit. The words
+/// behind the records are 0, after a refusal all of them.
 pub fn read_card<W: PlaceWidth>(
     card: &[u8],
     notes: &mut [i32],

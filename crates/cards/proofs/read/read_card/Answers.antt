@@ -1,4 +1,4 @@
-use Rattle.std.proofs.Common.{rules, arith, ◌≡◌, ◌+◌, ◌*◌, ◌<◌, ◌≤◌}
+use Rattle.std.proofs.Common.{rules}
 use Rattle.cards.proofs.ReadLaws.{answered_err, answered_ok}
 use Rattle.cards.proofs.read.read_card.Goals as goal
 

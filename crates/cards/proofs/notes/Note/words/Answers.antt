@@ -1,4 +1,4 @@
-use Rattle.std.proofs.Common.{arith, ap, sym, ◌∙◌, ◌≡◌, ◌+◌, ◌-◌, ◌*◌, ◌<◌, ◌++◌, List, ℤ, take}
+use Rattle.std.proofs.Common.{arith, ap, ◌∙◌, ◌≡◌, ◌+◌, ◌-◌, ◌*◌, ◌++◌, List, ℤ, take}
 use Rattle.rules.specs.Limits.{first_pitch}
 use Rattle.rules.specs.Words.{zeros}
 use Rattle.cards.specs.Fields.{each}

@@ -1,8 +1,7 @@
-use Rattle.std.proofs.Common.{arith, ap, sym, ◌∙◌, ◌≡◌, ◌+◌, ◌-◌, ◌*◌, length}
-use Rattle.std.proofs.lemmas.Result.{MatchResult-from_err, on_ok_weaker}
+use Rattle.std.proofs.Common.{arith, ap, sym, ◌∙◌, ◌≡◌, length}
+use Rattle.std.proofs.lemmas.Result.{on_ok_weaker}
 use Rattle.stores.specs.Cells.{with_record}
-use Rattle.rules.specs.Limits.{note_limit, bar_size}
-use Rattle.cards.specs.Fields.{each, between}
+use Rattle.rules.specs.Limits.{bar_size}
 use Rattle.cards.specs.Values.{card_head}
 use Rattle.cards.specs.Words.{head_words}
 use Rattle.cards.proofs.CardTaken.{head_sound, notes_sound}

@@ -1,4 +1,4 @@
-use Rattle.std.proofs.Common.{rules, arith, refl, ap, ◌∙◌, ◌≡◌, ◌+◌, ◌-◌, ◌*◌, [], sym, add-one}
+use Rattle.std.proofs.Common.{rules, arith, refl, ap, ◌∙◌, ◌≡◌, ◌*◌, [], sym}
 use mathlib.Core.Option.{none}
 use Rattle.rules.specs.Limits.{note_size, bar_size}
 use Rattle.cards.specs.Card.{note_count}

@@ -1,9 +1,8 @@
-use Rattle.std.proofs.Common.{rules, arith, refl, ap, ◌∙◌, ◌≡◌, ◌+◌, ◌-◌, ◌*◌, [], length, add-one}
+use Rattle.std.proofs.Common.{rules, arith, refl, ap, ◌∙◌, ◌≡◌, ◌*◌, [], length}
 use mathlib.Core.Option.{none}
 use Rattle.rules.specs.Limits.{note_size}
 use Rattle.cards.specs.Fields.{each}
 use Rattle.cards.specs.Taken.{note_taken, notes_taken, repeated}
-use Rattle.cards.specs.Words.{note_words}
 use Rattle.cards.specs.Values.{card_note}
 use Rattle.cards.proofs.NoteTaken.{note_sound}
 use Rattle.cards.proofs.RecordLaws.{such-few, length-note-words}

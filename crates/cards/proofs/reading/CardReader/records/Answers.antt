@@ -1,4 +1,4 @@
-use Rattle.std.proofs.Common.{rules, arith, sym, ◌∙◌, ◌≡◌, ◌<◌}
+use Rattle.std.proofs.Common.{rules, arith, sym, ◌∙◌, ◌≡◌}
 use borrow.Author.Tests.{eq-eqb, lt-ltb}
 use Rattle.cards.specs.Taken.{card_taken, front_taken}
 use Rattle.cards.proofs.CardTaken.{bars_sound}
