@@ -21,8 +21,8 @@ impl From<Result<Counts, Stop>> for Reading {
 
     ghost from_gives = { Says };
 
-    fn from(result: Result<Counts, Stop>) -> Reading {
-        match result {
+    fn from(answer: Result<Counts, Stop>) -> Reading {
+        match answer {
             Ok(counts) => Reading {
                 number: 0,
                 place: 0,
@@ -54,8 +54,8 @@ impl From<Result<u32, CardError>> for CardWritten {
 
     ghost from_gives = { SaysWritten };
 
-    fn from(result: Result<u32, CardError>) -> CardWritten {
-        match result {
+    fn from(answer: Result<u32, CardError>) -> CardWritten {
+        match answer {
             Ok(length) => CardWritten { number: 0, length },
             Err(error) => CardWritten {
                 number: error.into(),
@@ -79,8 +79,8 @@ impl From<Result<CardCounts, CardError>> for CardRead {
 
     ghost from_gives = { SaysRead };
 
-    fn from(result: Result<CardCounts, CardError>) -> CardRead {
-        match result {
+    fn from(answer: Result<CardCounts, CardError>) -> CardRead {
+        match answer {
             Ok(counts) => CardRead {
                 number: 0,
                 notes: counts.notes,

@@ -52,8 +52,13 @@ pub fn pae_write_card(notes: &[i32], bars: &[i32], card: &mut [u8]) -> CardWritt
 #[tactic(auto, using(crate::proofs::PromiseLaws::read_promise))]
 pub fn pae_read_card(card: &[u8], notes: &mut [i32], bars: &mut [i32]) -> CardRead
     ensures { ReadBack form1 card.now (length notes.old) (length bars.old)
-        (record { number = result.number; notes = result.notes; bars = result.bars;
-        note_cells = notes.new; bar_cells = bars.new }) }
+        (record {
+          number = result.number;
+          notes = result.notes;
+          bars = result.bars;
+          note_cells = notes.new;
+          bar_cells = bars.new;
+        }) }
 {
     read_card::<TwoBytes>(card, notes, bars).into()
 }
