@@ -15,7 +15,6 @@ use Rattle.rules.specs.Limits.{pitch_size}
 use Rattle.cards.specs.Fields.{every}
 use Rattle.cards.specs.Pieces.{parts}
 use Rattle.cards.specs.Judged.{pitch_of}
-use Rattle.cards.specs.Card.{Pitch}
 
 module _ {A B : Type 0} (f : List B → A) (size : ℕ) where
   -- each from its own words alone

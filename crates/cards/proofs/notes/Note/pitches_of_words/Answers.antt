@@ -1,4 +1,4 @@
-use Rattle.std.proofs.Common.{arith, sym, ap, ◌∙◌, ◌≡◌, ◌≤◌, ◌*◌, ◌+◌, ◌/◌, rules, w32, pos, get_or, take, drop, length, List, ◌++◌, ◌∷◌, [], ℤ}
+use Rattle.std.proofs.Common.{arith, sym, ap, ◌∙◌, ◌≡◌, ◌≤◌, ◌*◌, ◌/◌, rules, w32, pos, get_or, take, drop, length, List, ◌++◌, ◌∷◌, [], ℤ}
 use mathlib.Core.Bool.{false≢true}
 use mathlib.Core.List.{append_assoc, append-nil}
 use mir.Val.{SFits}
