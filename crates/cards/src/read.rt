@@ -11,7 +11,8 @@ ghost use Rattle.cards.specs.Values.{key_value, card_pitch, card_note, card_head
 ghost use Rattle.cards.specs.Words as card;
 ghost use Rattle.cards.specs.Answers.{ReadBack};
 ghost use Rattle.cards.specs.Taken.{notes_taken, bar_behind, bars_taken, card_taken};
-ghost use Rattle.cards.specs.ReadBack.{read_back, SameCells, IsCleared, NotesRead, BarRead, BarsRead, CardRead, ReadsCard};
+ghost use Rattle.cards.specs.ReadBack.{read_back, SameCells, IsCleared};
+ghost use Rattle.cards.specs.ReadBack.{NotesRead, BarRead, BarsRead, CardRead, ReadsCard};
 
 use super::error::CardError;
 use super::heads::Head;

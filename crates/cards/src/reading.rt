@@ -1,7 +1,8 @@
 // A card read front to back, a field at a time.
 ghost use Rattle.std.specs.Prelude.{◌≡◌, ◌<◌, length, eqb};
 ghost use Rattle.cards.specs.Pieces.{bit_in};
-ghost use Rattle.cards.specs.Taken.{byte_taken, number_taken, field_taken, key_taken, pitch_taken, pitches_taken, note_taken, head_taken};
+ghost use Rattle.cards.specs.Taken.{byte_taken, number_taken, field_taken, key_taken};
+ghost use Rattle.cards.specs.Taken.{pitch_taken, pitches_taken, note_taken, head_taken};
 ghost use Rattle.cards.specs.Places.{Takes};
 ghost use Rattle.cards.specs.Values.{key_value, key_numbered};
 
