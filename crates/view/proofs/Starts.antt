@@ -13,7 +13,7 @@ use Rattle.rules.specs.Refusals as refusals
 use Rattle.stores.specs.declared.note.TheConstants.{MARK_COUNT}
 use Rattle.stores.specs.Notes.{number_at}
 use Rattle.stores.specs.Groups.{timed_count, last_timed}
-use Rattle.view.specs.View.{View, open_length, number_from, cells_from}
+use Rattle.view.specs.View.{View, cells_from}
 use Rattle.view.specs.View as view
 use Rattle.view.specs.Steps as steps
 use Rattle.view.specs.Ready.{Reached}

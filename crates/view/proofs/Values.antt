@@ -6,7 +6,7 @@ use Rattle.rules.specs.Values.{Clef, Key, Meter, Length}
 use Rattle.rules.specs.Tokens.{clef, key, meter, octave, duration, accidental, letter, chord, rest, barline, grace, grace_group, figure, marking, other, Other, figure_mark, figure_repeat, bar_repeat, beam_open, beam_close, group_open, group_close, group_count, tie, trill}
 use Rattle.rules.specs.Records.{◌or◌, given, is_empty}
 use Rattle.rules.specs.Rules as rules
-use Rattle.rules.specs.Rules.{State, Start, counted, step}
+use Rattle.rules.specs.Rules.{State, counted, step}
 use Rattle.view.specs.View.{View, start_here}
 use Rattle.view.specs.Holds.{SameValues}
 use Rattle.view.proofs.Same.{item, attributes_of, attributes_in, voice_of, voice_in, attributes, voice, both_parts}
