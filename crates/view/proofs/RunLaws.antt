@@ -11,7 +11,7 @@ use Rattle.rules.specs.Records.{◌or◌, Diagnostic}
 use Rattle.rules.specs.Rules.{Attributes, fresh, further_bars, state_after}
 use Rattle.rules.specs.Diagnostics.{token_diagnosed, data_diagnosed}
 use Rattle.rules.specs.Refusals as rules
-use Rattle.rules.specs.Refusals.{LentRecords, refusal, refusal_in_turn, tokens_refusal}
+use Rattle.rules.specs.Refusals.{LentRecords, refusal_in_turn, tokens_refusal}
 use Rattle.rules.specs.Agreement.{All}
 use Rattle.stores.specs.declared.diagnostic.Diagnostic as lent
 use Rattle.stores.specs.Diagnostics.{lent_of, diagnosed, count_after, count_after_all, list_after_all}
