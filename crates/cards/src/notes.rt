@@ -62,7 +62,6 @@ pub struct Numbers {
 }
 
 impl Pitch {
-    ghost use Rattle.std.specs.Prelude.{true, false};
     ghost use Rattle.cards.specs.Card.{such_pitch};
     ghost use Rattle.cards.specs.Values.{card_pitch, pitch_numbered};
     ghost use Rattle.cards.specs.Places.{Judges};
@@ -142,7 +141,7 @@ impl Pitches {
 }
 
 impl Note {
-    ghost use Rattle.std.specs.Prelude.{true, false};
+    ghost use Rattle.std.specs.Prelude.{true};
     ghost use Rattle.cards.specs.Fields.{every};
     ghost use Rattle.cards.specs.Card.{such_pitch, such_note};
     ghost use Rattle.cards.specs.Values.{card_pitches, card_note, numbered};

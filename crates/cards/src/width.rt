@@ -4,7 +4,6 @@ ghost use Rattle.std.proofs.Common.{rules};
 ghost use Rattle.stores.specs.Cells.{word_limit};
 ghost use Rattle.cards.specs.Fields.{number};
 ghost use Rattle.cards.specs.Card.{Form, form1};
-ghost use Rattle.cards.specs.Taken.{number_taken};
 ghost use Rattle.cards.specs.Places.{TakesPlace};
 ghost use Rattle.cards.specs.Writer.{Wrote};
 

@@ -4,7 +4,6 @@ ghost use Rattle.tokens.specs.Steps.{edge_number};
 ghost use Rattle.stores.specs.Bars.{numbers_of};
 ghost use Rattle.reader.specs.Reader.{view_of, SameBuffers};
 ghost use Rattle.view.specs.Ready.{Sound};
-ghost use Rattle.view.specs.View.{has_note};
 ghost use Rattle.view.specs.Steps.{finished, stored_bar, after_barline};
 
 use super::accidentals::Accidentals;

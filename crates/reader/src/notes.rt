@@ -1,5 +1,5 @@
 // Letters and rests.
-ghost use Rattle.std.specs.Prelude.{◌≡◌, ◌<◌, true, if◌then◌else◌, Ok, Err, MatchResult, OnOk, List, [], ℤ};
+ghost use Rattle.std.specs.Prelude.{◌≡◌, ◌<◌, if◌then◌else◌, Ok, Err, MatchResult, OnOk, List, [], ℤ};
 ghost use Rattle.rules.specs.Rules.{heading, kind_of, length_of};
 ghost use Rattle.tokens.specs.Numbers.{number_in};
 ghost use Rattle.tokens.specs.Spans.{item_of};

@@ -1,5 +1,5 @@
-// What tokens say of pitch and time: steps, octaves, accidentals, barlines, lengths and patterns of lengths.
-ghost use Rattle.std.specs.Prelude.{◌≡◌, ◌+◌, ◌<◌, ◌≤◌, ◌∷◌, [], length, take, IsTrue, MatchOption};
+// What tokens say of pitch and time: steps, octaves, accidentals, barlines, lengths and patterns.
+ghost use Rattle.std.specs.Prelude.{◌≡◌, ◌<◌, ◌≤◌, ◌∷◌, [], take, IsTrue, MatchOption};
 ghost use Rattle.rules.specs.Text.{is_digit, is_note_letter, every};
 ghost use Rattle.rules.specs.Cut.{is_duration};
 ghost use Rattle.rules.specs.Tokens.{slashes, colons};
@@ -373,7 +373,8 @@ impl Length {
     };
 }
 
-/// The lengths of a digit token, one at least: its first digit's duration, and the digits and dots behind it.
+/// The lengths of a digit token, one at least: its first digit's duration, and the digits and dots
+/// behind it.
 #[derive(Clone, Copy)]
 pub struct Pattern<'d> {
     first: Duration,
@@ -495,7 +496,8 @@ impl<'d> Kept<'d> {
     }
 }
 
-/// The lengths that notes take in turn: behind the last one a pattern begins anew. The next one is a kept one, else it stands in the text.
+/// The lengths that notes take in turn: behind the last one a pattern begins anew. The next one is a
+/// kept one, else it stands in the text.
 #[derive(Clone, Copy)]
 pub struct Cycle<'d> {
     lengths: [Length; KEPT],
