@@ -6,28 +6,31 @@
 mod arguments; // arguments.rt: what the program is asked for
 mod texts; // texts.rt: the texts of an input
 
-ghost use Rattle.std.specs.Io.{ReadsAtMost};
-
-use arguments::{ALL, BARS, LINE, MARKS, NOTES, Options, WHY, argument, options_given};
+use arguments::{Layer, Options, argument, options_given};
 use ending::Reading;
 use fields::{Fields, fields_of};
 use limits::Pae;
-use marks::table::{TABLE, enter_marks, enter_stored};
-use meanings::meaning::show_marks;
+use marks::findings::Finding;
+use marks::lookback::Marks;
+use marks::records::{Bars, Notes};
+use meanings::refusals::{Refused, show_refusal};
+use meanings::shown::Shown;
 use reading::read::read;
 use records::cells::{DIAGNOSTIC, clear};
-use rows::row::{end_row, say, say_heading, say_number, say_row, say_text};
-use rows::terms::say_counted;
-use show::read_full;
+use rows::headings::show_heading;
+use rows::terms::Counted;
+use rows::text::Text;
+use scan::lines::{Line, Offset, Part};
+use std::alloc::Global;
 use std::env::Env;
 use std::io;
-use std::io::Write;
+use std::io::{Read, Write};
+use stores::diagnostic::Diagnostic;
 use tables::bars::{Defaults, show_bars};
 use tables::notes::show_notes;
 use texts::{end_of_line, keysig_line, separator, text_end, without_line_end};
-use typed::line::{Outcome, show_typed};
-use typed::notices::show_refusal;
-use whys::why::{KeyField, show_whys};
+use tokens::cut::Place;
+use whys::why::{KeyField, Whys};
 
 // The input is shorter than this.
 const INPUT: usize = 131072;
@@ -43,23 +46,23 @@ const CELLS: usize = Pae::MAX_DIAGNOSTICS;
 
 // ---- a text
 
-// Whether a layer is asked for.
-fn is_asked(options: Options, layer: u8) -> bool {
-    (options.layer == ALL) | (options.layer == layer)
-}
-
 // The key of the fields; the last keysig field stands in this line.
 fn key_field(fields: Fields, line: usize) -> KeyField {
     let alters = fields.attributes.alters;
-    KeyField { alters, line }
+    KeyField {
+        alters,
+        line: match u32::try_from(line) {
+            Ok(line) if 0 < line => Some(Line(line)),
+            _ => None,
+        },
+    }
 }
 
 // The layers of a text that is accepted, behind its marks; its last keysig field stands in this line.
 fn show_layers<W: Write>(
     out: &mut W,
-    data: &[u8],
-    table: &[usize],
-    count: usize,
+    alloc: Global,
+    marks: &Marks<'_>,
     fields: Fields,
     line: usize,
     reading: Reading,
@@ -67,19 +70,27 @@ fn show_layers<W: Write>(
     bars: &[i32],
     options: Options,
 ) -> io::Result<()> {
-    if is_asked(options, NOTES) {
-        show_notes(out, notes, reading.notes, data, table, count)?;
+    let notes = Notes::new(notes, reading.notes as usize);
+    if options.has(Layer::Notes) {
+        show_notes(out, alloc, notes, marks)?;
     }
-    if is_asked(options, BARS) {
+    if options.has(Layer::Bars) {
         let defaults = Defaults {
             clef: fields.attributes.clef == 0,
             key: !fields.attributes.keyed,
         };
-        show_bars(out, bars, reading.bars, notes, data, table, count, defaults)?;
+        let bars = Bars::new(bars, reading.bars as usize);
+        show_bars(out, bars, notes, marks, defaults)?;
     }
-    if is_asked(options, WHY) {
+    if options.has(Layer::Why) {
         let key = key_field(fields, line);
-        show_whys(out, data, table, count, notes, key, options.letter)?;
+        let whys = Whys { marks, notes, key };
+        let letter = options.letter.unwrap_or(0);
+        let place = match u32::try_from(letter) {
+            Ok(letter) if 0 < letter => Some(Place(letter)),
+            _ => None,
+        };
+        whys.show(out, place)?;
     }
     Ok(())
 }
@@ -91,61 +102,68 @@ fn is_read(refusal: u32) -> bool {
 
 // What came of the text, in the last row.
 fn show_outcome<W: Write>(out: &mut W, reading: Reading) -> io::Result<()> {
-    end_row(out)?;
+    out.write_all(b"\n")?;
     if reading.number != 0 {
-        say(out, b"refused ")?;
-        say_number(out, reading.number as u64)?;
-        end_row(out)?;
-        return Ok(());
+        let number = reading.number;
+        return writeln!(out, "refused {number}");
     }
-    say(out, b"accepted: ")?;
-    say_counted(out, reading.notes as u64, b"note")?;
-    say(out, b", ")?;
-    say_counted(out, reading.bars as u64, b"bar")?;
-    say(out, b", ")?;
-    say_counted(out, reading.diagnostics as u64, b"diagnostic")?;
+    let notes = Counted(reading.notes, "note");
+    let bars = Counted(reading.bars, "bar");
+    let diagnostics = Counted(reading.diagnostics, "diagnostic");
+    write!(out, "accepted: {notes}, {bars}, {diagnostics}")?;
     if reading.diagnostics as usize == CELLS {
-        say(out, b" or more")?;
+        out.write_all(b" or more")?;
     }
-    end_row(out)
+    out.write_all(b"\n")
 }
 
-// The first layer, which a refused text always has, and the marks of data that was looked at; so many marks.
-fn show_above<W: Write>(
-    out: &mut W,
-    text: &[u8],
-    data: &[u8],
-    table: &[usize],
-    count: usize,
-    offset: usize,
-    reading: Reading,
-    notes: &[i32],
-    diagnostics: &[i32],
-    options: Options,
-) -> io::Result<()> {
-    let refusal = reading.number;
-    let found = reading.diagnostics;
-    let outcome = Outcome {
-        diagnostics: found,
-        refusal,
-        place: reading.place,
-    };
-    if is_asked(options, LINE) | (0 < refusal) {
-        show_typed(
-            out,
-            text,
-            data,
-            offset,
-            table,
-            count,
-            notes,
-            diagnostics,
-            outcome,
-        )?;
+// Why the text is refused.
+fn refusal_of(reading: Reading) -> Option<Refused> {
+    if reading.number == 0 {
+        return None;
     }
-    if is_asked(options, MARKS) & is_read(refusal) {
-        let told = (refusal == 0) & ((found as usize) < CELLS);
-        show_marks(out, data, table, count, notes, diagnostics, found, told)?;
+    let place = if reading.place == 0 {
+        None
+    } else {
+        Some(Place(reading.place))
+    };
+    Some(Refused {
+        number: reading.number,
+        place,
+    })
+}
+
+// What was found, by the words of so many diagnostics.
+fn findings_in(alloc: Global, words: &[i32], count: usize) -> io::Result<Vec<Finding>> {
+    let mut findings = Vec::new(alloc);
+    let (records, _) = words.as_chunks::<DIAGNOSTIC>();
+    for words in records.iter().take(count) {
+        let diagnostic = Diagnostic {
+            number: words[0],
+            place_kind: words[1],
+            place: words[2],
+            value_kind: words[3],
+            start: words[4],
+            end: words[5],
+        };
+        if let Some(finding) = Finding::read(diagnostic) {
+            findings.push(finding)?;
+        }
+    }
+    Ok(findings)
+}
+
+// The first layer, which a refused text always has, and the marks of data that was looked at.
+fn show_above<W: Write>(out: &mut W, shown: Shown<'_>, options: Options) -> io::Result<()> {
+    if options.has(Layer::Line) | shown.refusal.is_some() {
+        shown.show_typed(out)?;
+    }
+    let looked_at = match shown.refusal {
+        Some(refused) => is_read(refused.number),
+        None => true,
+    };
+    if options.has(Layer::Marks) & looked_at {
+        shown.show_marks(out)?;
     }
     Ok(())
 }
@@ -153,8 +171,10 @@ fn show_above<W: Write>(
 // The layers of a text with these data.
 fn show_part<W: Write>(
     out: &mut W,
+    alloc: Global,
     text: &[u8],
-    data: &[u8],
+    data: Option<Part<'_>>,
+    marks: &Marks<'_>,
     fields: Fields,
     reading: Reading,
     notes: &[i32],
@@ -162,48 +182,40 @@ fn show_part<W: Write>(
     diagnostics: &[i32],
     options: Options,
 ) -> io::Result<()> {
-    let mut table = [0usize; TABLE];
-    let count = enter_marks(&mut table, data);
-    enter_stored(&mut table, count, notes, reading.notes);
-    show_above(
-        out,
+    let records = Notes::new(notes, reading.notes as usize);
+    let findings = findings_in(alloc, diagnostics, reading.diagnostics as usize)?;
+    let shown = Shown {
         text,
         data,
-        &table,
-        count,
-        data_offset(fields),
-        reading,
-        notes,
-        diagnostics,
-        options,
-    )?;
+        marks,
+        notes: records,
+        findings: findings.as_slice(),
+        refusal: refusal_of(reading),
+    };
+    show_above(out, shown, options)?;
     if reading.number == 0 {
         let line = keysig_line(text);
         show_layers(
-            out, data, &table, count, fields, line, reading, notes, bars, options,
+            out, alloc, marks, fields, line, reading, notes, bars, options,
         )?;
     }
     Ok(())
 }
 
-// Where the data stands; behind every text where there is none.
-fn data_offset(fields: Fields) -> usize {
-    if fields.present {
-        return fields.start;
-    }
-    INPUT
-}
-
 // A text that is longer than a reading takes.
 fn refuse_long<W: Write>(out: &mut W, text: &[u8]) -> io::Result<()> {
-    say_heading(out, b"1. The typed line")?;
-    show_refusal(out, text, 1, 0)?;
-    say_row(out, b"")?;
-    say_row(out, b"refused 1")
+    show_heading(out, "1. The typed line")?;
+    let refused = Refused {
+        number: 1,
+        place: None,
+    };
+    show_refusal(out, text, refused)?;
+    out.write_all(b"\n")?;
+    out.write_all(b"refused 1\n")
 }
 
 // Reads a text and shows it.
-fn show_one<W: Write>(out: &mut W, text: &[u8], options: Options) -> io::Result<()> {
+fn show_one<W: Write>(out: &mut W, alloc: Global, text: &[u8], options: Options) -> io::Result<()> {
     if Pae::MAX_INPUT_BYTES < text.len() {
         refuse_long(out, text)?;
         return Ok(());
@@ -227,16 +239,15 @@ fn show_one<W: Write>(out: &mut W, text: &[u8], options: Options) -> io::Result<
     let end = fields.end;
     if start <= end {
         if end <= text.len() {
+            let part = Part {
+                start: Offset(start as u32),
+                bytes: &text[start..end],
+            };
+            let records = Notes::new(&notes, reading.notes as usize);
+            let marks = Marks::new(alloc, part, records)?;
+            let data = if fields.present { Some(part) } else { None };
             show_part(
-                out,
-                text,
-                &text[start..end],
-                fields,
-                reading,
-                &notes,
-                &bars,
-                &scratch,
-                options,
+                out, alloc, text, data, &marks, fields, reading, &notes, &bars, &scratch, options,
             )?;
         }
     }
@@ -247,20 +258,24 @@ fn show_one<W: Write>(out: &mut W, text: &[u8], options: Options) -> io::Result<
 
 // A row between two texts.
 fn show_rule<W: Write>(out: &mut W) -> io::Result<()> {
-    say_row(out, b"")?;
-    say_row(
-        out,
-        b"================================================================================",
+    out.write_all(b"\n")?;
+    out.write_all(
+        b"================================================================================\n",
     )
 }
 
 // The texts of the input, a line that separates between two.
-fn show_all<W: Write>(out: &mut W, input: &[u8], options: Options) -> io::Result<()> {
+fn show_all<W: Write>(
+    out: &mut W,
+    alloc: Global,
+    input: &[u8],
+    options: Options,
+) -> io::Result<()> {
     let mut at = 0;
     while at < input.len() {
         let end = text_end(input, at);
         let last = without_line_end(input, at, end);
-        show_one(out, &input[at..last], options)?;
+        show_one(out, alloc, &input[at..last], options)?;
         let size = separator(&input[end..]);
         if size == 0 {
             return Ok(());
@@ -277,6 +292,7 @@ fn show_all<W: Write>(out: &mut W, input: &[u8], options: Options) -> io::Result
 // A line of the input as a text, with its number; an empty line is none. Whether it is one.
 fn show_numbered<W: Write>(
     out: &mut W,
+    alloc: Global,
     line: &[u8],
     number: usize,
     options: Options,
@@ -285,15 +301,18 @@ fn show_numbered<W: Write>(
         return Ok(false);
     }
     show_rule(out)?;
-    say(out, b"Line ")?;
-    say_number(out, number as u64)?;
-    end_row(out)?;
-    show_one(out, line, options)?;
+    writeln!(out, "Line {number}")?;
+    show_one(out, alloc, line, options)?;
     Ok(true)
 }
 
 // Each line of the input as a text.
-fn show_lines<W: Write>(out: &mut W, input: &[u8], options: Options) -> io::Result<()> {
+fn show_lines<W: Write>(
+    out: &mut W,
+    alloc: Global,
+    input: &[u8],
+    options: Options,
+) -> io::Result<()> {
     let mut any = false;
     let mut number = 0;
     let mut at = 0;
@@ -301,57 +320,54 @@ fn show_lines<W: Write>(out: &mut W, input: &[u8], options: Options) -> io::Resu
         let end = end_of_line(input, at);
         let last = without_line_end(input, at, end);
         number += 1;
-        any = any | show_numbered(out, &input[at..last], number, options)?;
+        any = any | show_numbered(out, alloc, &input[at..last], number, options)?;
         at = end + 1;
     }
     if !any {
-        say_row(out, b"No line of the input has a text.")?;
+        out.write_all(b"No line of the input has a text.\n")?;
     }
     Ok(())
 }
 
-fn show_input<W: Write>(out: &mut W, input: &[u8], options: Options) -> io::Result<()> {
+fn show_input<W: Write>(
+    out: &mut W,
+    alloc: Global,
+    input: &[u8],
+    options: Options,
+) -> io::Result<()> {
     if input.len() == 0 {
-        show_one(out, input, options)?;
+        show_one(out, alloc, input, options)?;
         return Ok(());
     }
     if options.lines {
-        show_lines(out, input, options)?;
+        show_lines(out, alloc, input, options)?;
         return Ok(());
     }
-    show_all(out, input, options)
+    show_all(out, alloc, input, options)
 }
 
 // ---- the program
 
 fn show_help<W: Write>(out: &mut W) -> io::Result<()> {
-    say_row(
-        out,
-        b"Shows Plaine & Easie lines in four layers, and says why each letter, rest and copy is as it is.",
+    out.write_all(
+        b"Shows Plaine & Easie lines in four layers, and says why each letter, rest and copy is as it is.\n",
     )?;
-    say_row(out, b"")?;
-    say_row(
-        out,
-        b"  layers [OPTIONS]          texts from standard input; a line that is exactly --- stands between two",
+    out.write_all(b"\n")?;
+    out.write_all(
+        b"  layers [OPTIONS]          texts from standard input; a line that is exactly --- stands between two\n",
     )?;
-    say_row(out, b"  layers [OPTIONS] LINE     this text")?;
-    say_row(out, b"")?;
-    say_row(
-        out,
-        b"  --lines                   each line of the input is a text of its own",
+    out.write_all(b"  layers [OPTIONS] LINE     this text\n")?;
+    out.write_all(b"\n")?;
+    out.write_all(b"  --lines                   each line of the input is a text of its own\n")?;
+    out.write_all(
+        b"  --layer NAME              one layer alone: line, marks, notes, bars or why\n",
     )?;
-    say_row(
-        out,
-        b"  --layer NAME              one layer alone: line, marks, notes, bars or why",
+    out.write_all(
+        b"  --letter N                only why the letter, rest or copy at place N is as it is; places count characters\n",
     )?;
-    say_row(
-        out,
-        b"  --letter N                only why the letter, rest or copy at place N is as it is; places count characters",
-    )?;
-    say_row(out, b"  --help                    this")?;
-    say_row(
-        out,
-        b"  --                        what follows is a text, even if it looks like an option",
+    out.write_all(b"  --help                    this\n")?;
+    out.write_all(
+        b"  --                        what follows is a text, even if it looks like an option\n",
     )
 }
 
@@ -362,44 +378,45 @@ fn refuse_argument<W: Write>(
     input: &mut [u8],
     i: usize,
 ) -> io::Result<()> {
-    say(out, b"layers: ")?;
+    out.write_all(b"layers: ")?;
     match argument(rt, i, input) {
-        None => say_row(
-            out,
-            b"a value is missing after the last option (layers --help)",
-        ),
-        Some(0) => say_row(out, b"not understood: an empty argument (layers --help)"),
+        None => out.write_all(b"a value is missing after the last option (layers --help)\n"),
+        Some(0) => out.write_all(b"not understood: an empty argument (layers --help)\n"),
         Some(size) => {
-            say(out, b"not understood: ")?;
-            say_text(out, &input[..size])?;
-            say_row(out, b" (a text with blanks needs quotes; layers --help)")
+            out.write_all(b"not understood: ")?;
+            let text = Text(&input[..size]);
+            write!(out, "{text}")?;
+            out.write_all(b" (a text with blanks needs quotes; layers --help)\n")
         }
     }
 }
 
-// The text that is argument i, or the input.
-fn input_of<R: Env + Input>(rt: &R, input: &mut [u8], i: usize) -> io::Result<usize>
-    ensures { ReadsAtMost result input.new }
-{
-    if i == 0 {
-        return read_full(&mut rt.reader(), input);
-    }
-    Ok(argument(rt, i, input).unwrap_or(0))
+// The text that is an argument, or the input.
+fn input_of<R: Env + Input>(rt: &R, alloc: Global, text: Option<usize>) -> io::Result<Vec<u8>> {
+    let Some(number) = text else {
+        let mut input = Vec::new(alloc);
+        rt.reader().take(INPUT as u64).read_to_end(&mut input)?;
+        return Ok(input);
+    };
+    let mut buffer = [0u8; INPUT];
+    let size = argument(rt, number, &mut buffer).unwrap_or(0);
+    Ok(Vec::from_slice(alloc, &buffer[..size])?)
 }
 
 fn main(rt: HostRuntime) -> io::Result<()> {
     let mut out = io::writer(&rt);
+    let alloc = rt.alloc();
     let options = options_given(&rt);
-    let mut input = [0u8; INPUT];
     if options.help {
         return show_help(&mut out);
     }
-    if options.bad != 0 {
-        return refuse_argument(&rt, &mut out, &mut input, options.bad);
+    if let Some(number) = options.bad {
+        let mut buffer = [0u8; INPUT];
+        return refuse_argument(&rt, &mut out, &mut buffer, number);
     }
-    let size = input_of(&rt, &mut input, options.text)?;
-    if size == INPUT {
-        return say_row(&mut out, b"The input is too long: 131,072 bytes or more.");
+    let input = input_of(&rt, alloc, options.text)?;
+    if input.len() == INPUT {
+        return out.write_all(b"The input is too long: 131,072 bytes or more.\n");
     }
-    show_input(&mut out, &input[..size], options)
+    show_input(&mut out, alloc, input.as_slice(), options)
 }

@@ -1,7 +1,6 @@
 // The texts of an input, those between lines that are exactly `---` or each line for itself; and the keysig field of a text.
 ghost use Rattle.std.specs.Prelude.{◌≤◌, length};
 
-use show::byte_at;
 use text::{begins_with, line_end, trim};
 
 // How many bytes a line that separates has here, its line end included; 0 where none begins here. A carriage return may stand before the end.
@@ -9,11 +8,11 @@ pub(crate) fn separator(rest: &[u8]) -> usize {
     if !begins_with(rest, b"---") {
         return 0;
     }
-    if (rest.len() == 3) | (byte_at(rest, 3) == 10) {
+    if (rest.len() == 3) | (rest.get(3) == Some(&10)) {
         return 4;
     }
-    if byte_at(rest, 3) == 13 {
-        if (rest.len() == 4) | (byte_at(rest, 4) == 10) {
+    if rest.get(3) == Some(&13) {
+        if (rest.len() == 4) | (rest.get(4) == Some(&10)) {
             return 5;
         }
     }

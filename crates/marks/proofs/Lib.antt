@@ -1,3 +1,1 @@
-pub mod TableLaws
-pub mod LookBackLaws
-pub mod MarkLaws
+pub mod MarksLaws

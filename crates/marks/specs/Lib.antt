@@ -1,5 +1,5 @@
-pub mod Cells
 pub mod Kinds
-pub mod Table
-pub mod Marks
 pub mod LookBack
+pub mod Marks
+pub mod Records
+pub mod Values

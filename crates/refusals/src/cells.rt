@@ -2,10 +2,14 @@
 use super::table::lent_number;
 use ending::Reading;
 use records::cells::{BAR, NOTE};
-use show::word_at;
 
 // What every cell holds before a call.
 pub(crate) const RUBBISH: i32 = -77;
+
+// The word at `i`, 0 past the end.
+fn word_at(words: &[i32], i: usize) -> i32 {
+    if i < words.len() { words[i] } else { 0 }
+}
 
 // The words from `start` up to `end` are all this one, or none of them is.
 fn are(words: &[i32], start: usize, end: usize, word: i32, all: bool) -> bool {

@@ -11,9 +11,8 @@ use cells::{RUBBISH, words_right};
 use lend::{CELLS, Told, lend};
 use records::cells::{BAR, NOTE};
 use row::{print_line, print_row};
-use show::read_full;
 use std::io;
-use std::io::Write;
+use std::io::{Read, Write};
 use table::{find, is_heading, least, lent_number, make_text};
 
 // The table has at most so many bytes.
@@ -97,7 +96,7 @@ fn run_table<W: Write>(out: &mut W, table: &[u8]) -> io::Result<()> {
 }
 
 fn main(rt: HostRuntime) -> io::Result<()> {
-    let mut table = [0u8; TABLE];
-    let size = read_full(&mut rt.reader(), &mut table)?;
-    run_table(&mut io::writer(&rt), &table[..size])
+    let mut table = Vec::new(rt.alloc());
+    rt.reader().take(TABLE as u64).read_to_end(&mut table)?;
+    run_table(&mut io::writer(&rt), table.as_slice())
 }

@@ -2,9 +2,13 @@
 ghost use Rattle.std.specs.Prelude.{◌≤◌, length};
 
 use ending::Reading;
-use show::byte_at;
 
 // ---- the parts of a line
+
+// The byte at `i`, 0 past the end.
+fn byte_at(line: &[u8], i: usize) -> u8 {
+    if i < line.len() { line[i] } else { 0 }
+}
 
 fn after(line: &[u8], i: usize) -> usize {
     if i < line.len() {
@@ -29,8 +33,7 @@ pub(crate) fn find(line: &[u8], start: usize, b: u8) -> usize
 
 // An empty line, or one with a `#` before it.
 pub(crate) fn is_heading(line: &[u8]) -> bool {
-    let b = byte_at(line, 0);
-    (b == b'#') | (b == 0)
+    matches!(line, [] | [b'#' | 0, ..])
 }
 
 // Each of the first three parts has a `|` behind it.

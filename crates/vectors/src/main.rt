@@ -10,9 +10,8 @@ use pae::{pae_read_card, pae_write_card};
 use reading::read::read;
 use records::cells::{BAR, DIAGNOSTIC, FIRST_PITCH, NOTE, PITCH, clear, natural};
 use records::note::PITCH_COUNT;
-use show::{byte_at, magnitude, read_full, word_at};
 use std::io;
-use std::io::Write;
+use std::io::{Read, Write};
 
 // The list has at most so many bytes.
 const LIST: usize = 1048576;
@@ -69,6 +68,16 @@ struct Tally {
 }
 
 // ---- the list
+
+// The byte at `i`, 0 past the end.
+fn byte_at(bytes: &[u8], i: usize) -> u8 {
+    if i < bytes.len() { bytes[i] } else { 0 }
+}
+
+// The word at `i`, 0 past the end.
+fn word_at(words: &[i32], i: usize) -> i32 {
+    if i < words.len() { words[i] } else { 0 }
+}
 
 fn after(list: &[u8], i: usize) -> usize {
     if i < list.len() {
@@ -192,9 +201,9 @@ fn same_number(list: &[u8], c: Compared, value: u32) -> Compared {
 fn same_word(list: &[u8], c: Compared, word: i32) -> Compared {
     if word < 0 {
         let signed = same_byte(list, c, b'-');
-        return same_number(list, signed, magnitude(word));
+        return same_number(list, signed, word.unsigned_abs());
     }
-    same_number(list, c, magnitude(word))
+    same_number(list, c, word.unsigned_abs())
 }
 
 // The words from `start` up to `end`.
@@ -524,18 +533,11 @@ fn print_count<W: Write>(out: &mut W, count: u64, of: &[u8]) -> io::Result<()> {
     out.write_all(of)
 }
 
-// Room for the list. The `ensures` gives the length, which lending it asks for.
-fn room() -> [u8; LIST]
-    ensures { 1048576 ≡ length result }
-{
-    [0; LIST]
-}
-
 fn main(rt: HostRuntime) -> io::Result<()> {
-    let mut list = room();
-    let size = read_full(&mut rt.reader(), &mut list)?;
+    let mut list = Vec::new(rt.alloc());
+    rt.reader().take(LIST as u64).read_to_end(&mut list)?;
     let mut out = io::writer(&rt);
-    let tally = replay_lent(&mut out, &list[..size])?;
+    let tally = replay_lent(&mut out, list.as_slice())?;
     print_count(&mut out, tally.texts, b" texts, ")?;
     print_count(&mut out, tally.differ, b" differ\n")?;
     print_count(&mut out, tally.refused, b" refused\n")?;
