@@ -1,1 +1,2 @@
 pub mod MarksLaws
+pub mod RecordLaws

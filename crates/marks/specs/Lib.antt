@@ -1,3 +1,6 @@
+pub mod Bars
+pub mod Fates
+pub mod Findings
 pub mod Kinds
 pub mod LookBack
 pub mod Marks

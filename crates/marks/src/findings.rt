@@ -1,7 +1,10 @@
 // Diagnostics by their fields.
+ghost use Rattle.std.specs.Prelude.{◌≡◌, IfOk};
+ghost use Rattle.marks.specs.Records.{TheOne};
+ghost use Rattle.marks.specs.Findings.{IsRemark, IsAt, IsValue, IsFinding, AreFindings, place_of, line_of};
+
 use scan::lines::{Line, Offset};
 use std::alloc::{AllocError, Global};
-use stores::cells::natural;
 use stores::diagnostic::{At, Diagnostic, Remark, Value};
 use tokens::cut::Place;
 
@@ -13,7 +16,10 @@ pub struct Finding {
     pub value: Value,
 }
 
-fn remark_of(number: i32) -> Option<Remark> {
+/// The remark of a number.
+fn remark_of(number: i32) -> Option<Remark>
+    ensures { TheOne (IsRemark number) result }
+{
     let remark = match number {
         1 => Remark::NoField,
         2 => Remark::UnknownKey,
@@ -40,7 +46,11 @@ fn remark_of(number: i32) -> Option<Remark> {
     Some(remark)
 }
 
-fn at_of(kind: i32, place: u32) -> Option<At> {
+/// Where, by its kind and number.
+fn at_of(kind: i32, place: i32) -> Option<At>
+    ensures { TheOne (IsAt kind place) result }
+{
+    let place = u32::try_from(place).ok()?;
     match kind {
         1 => Some(At::Line(Line(place))),
         2 => Some(At::Field(Line(place))),
@@ -49,17 +59,24 @@ fn at_of(kind: i32, place: u32) -> Option<At> {
     }
 }
 
-fn value_of(kind: i32, start: u32, end: u32) -> Option<Value> {
-    match kind {
-        1 => Some(Value::Part(Offset(start), Offset(end))),
-        2 => Some(Value::Parentheses),
-        3 => Some(Value::Number(start)),
+/// A value, by its kind, start and end.
+fn value_of(kind: i32, start: i32, end: i32) -> Option<Value>
+    ensures { TheOne (IsValue kind start end) result }
+{
+    let start = u32::try_from(start).ok()?;
+    let end = u32::try_from(end).ok()?;
+    match (kind, start, end) {
+        (1, start, end) => Some(Value::Part(Offset(start), Offset(end))),
+        (2, 0, 0) => Some(Value::Parentheses),
+        (3, number, 0) => Some(Value::Number(number)),
         _ => None,
     }
 }
 
 /// What the diagnostics of a reading say, in order.
-pub fn read_all(alloc: Global, diagnostics: &[Diagnostic]) -> Result<Vec<Finding>, AllocError> {
+pub fn read_all(alloc: Global, diagnostics: &[Diagnostic]) -> Result<Vec<Finding>, AllocError>
+    ensures { IfOk result (λ findings. AreFindings diagnostics.now findings.items) }
+{
     let mut findings = Vec::new(alloc);
     for diagnostic in diagnostics {
         if let Some(finding) = Finding::read(*diagnostic) {
@@ -71,19 +88,20 @@ pub fn read_all(alloc: Global, diagnostics: &[Diagnostic]) -> Result<Vec<Finding
 
 impl Finding {
     /// What a diagnostic says; none of one that is blank.
-    pub fn read(diagnostic: Diagnostic) -> Option<Finding> {
-        let remark = remark_of(diagnostic.number)?;
-        let at = at_of(diagnostic.place_kind, natural(diagnostic.place))?;
-        let value = value_of(
-            diagnostic.value_kind,
-            natural(diagnostic.start),
-            natural(diagnostic.end),
-        )?;
-        Some(Finding { remark, at, value })
+    pub fn read(diagnostic: Diagnostic) -> Option<Finding>
+        ensures { TheOne (IsFinding diagnostic) result }
+    {
+        Some(Finding {
+            remark: remark_of(diagnostic.number)?,
+            at: at_of(diagnostic.place_kind, diagnostic.place)?,
+            value: value_of(diagnostic.value_kind, diagnostic.start, diagnostic.end)?,
+        })
     }
 
     /// The place in the data where it stands; none of one that stands in a line.
-    pub fn place(self) -> Option<Place> {
+    pub fn place(self) -> Option<Place>
+        ensures { result ≡ place_of self.at }
+    {
         match self.at {
             At::Data(place) => Some(place),
             _ => None,
@@ -91,7 +109,9 @@ impl Finding {
     }
 
     /// The line where it stands; none of one that stands in the data.
-    pub fn line(self) -> Option<Line> {
+    pub fn line(self) -> Option<Line>
+        ensures { result ≡ line_of self.at }
+    {
         match self.at {
             At::Line(line) | At::Field(line) => Some(line),
             At::Data(_) => None,

@@ -1,9 +1,10 @@
 // Records by their fields.
-ghost use Rattle.std.specs.Prelude.{◌≡◌, ◌+◌, ◌≤◌, length};
+ghost use Rattle.std.specs.Prelude.{◌≡◌, ◌+◌, ◌≤◌, length, take, not};
 ghost use Rattle.std.specs.List.{prefix_len};
-ghost use Rattle.stores.specs.Notes.{kind_number};
+ghost use Rattle.rules.specs.Records.{is_grace_kind};
 ghost use Rattle.marks.specs.Marks.{record_place, end_at, has_place};
-ghost use Rattle.marks.specs.Records.{word_of, number_of, ReadsAs, tie_starts, tie_ends, beam_of, tuplet_of};
+ghost use Rattle.marks.specs.Records.{word_of, number_of, records_in, TheOne, IsRecordAt, kind_of, IsLengthOf, tie_starts, tie_ends, beam_of, tuplet_of, mark_of, IsPitch, IsPitchAt};
+ghost use Rattle.marks.specs.Bars.{IsClef, IsKey, IsSymbol, IsMeter, IsBar, IsBarAt};
 
 use stores::bar::Bar;
 use stores::cells::{BAR, FIRST_PITCH, NOTE, PITCH, natural};
@@ -49,25 +50,36 @@ impl<'a> Note<'a> {
         Place(natural(self.0[PLACE]))
     }
 
+    #[tactic(auto, using(crate::proofs::RecordLaws::kind_read))]
     pub fn kind(self) -> NoteKind
-        ensures { ReadsAs kind_number (word_of self.entry.0.now KIND) result }
+        ensures { result ≡ kind_of (word_of self.entry.0.now KIND) }
     {
         NoteKind::try_from(self.0[KIND]).unwrap_or(NoteKind::WholeBarRest)
     }
 
     /// Whether it takes time of its bar: it is no grace.
-    pub fn is_timed(self) -> bool {
+    pub fn is_timed(self) -> bool
+        ensures { result ≡ not (is_grace_kind (number_of self.entry.0.now KIND)) }
+    {
         !matches!(self.kind(), NoteKind::Grace | NoteKind::SlashedGrace)
     }
 
     /// Its length; a whole-bar rest has none.
-    pub fn length(self) -> Option<Length> {
+    pub fn length(self) -> Option<Length>
+        ensures { TheOne (IsLengthOf self.entry.0.now) result }
+    {
         if self.kind() == NoteKind::WholeBarRest {
             return None;
         }
         let duration = Duration::try_from(self.0[DURATION]).ok()?;
-        let dots = natural(self.0[DOTS]).min(3) as u8;
-        Some(Length { duration, dots })
+        let dots = self.0[DOTS];
+        if !(0..=3).contains(&dots) {
+            return None;
+        }
+        Some(Length {
+            duration,
+            dots: dots as u8,
+        })
     }
 
     pub fn tie_starts(self) -> bool
@@ -113,8 +125,10 @@ impl<'a> Note<'a> {
     }
 
     /// Its mark number `which` from 0, in order of arrival.
-    pub fn mark(self, which: u32) -> NoteMark {
-        if which < 32 && natural(self.0[MARKS]) >> which & 1 == 1 {
+    pub fn mark(self, which: u32) -> NoteMark
+        ensures { result ≡ mark_of (number_of self.entry.0.now MARKS) which }
+    {
+        if which < 32 && (natural(self.0[MARKS]) >> which) % 2 == 1 {
             NoteMark::Trill
         } else {
             NoteMark::Fermata
@@ -136,18 +150,27 @@ impl<'a> Note<'a> {
     }
 
     /// Its pitch number `which` from 0, in the order of the letters.
-    pub fn pitch(self, which: usize) -> Option<Pitch> {
+    pub fn pitch(self, which: usize) -> Option<Pitch>
+        ensures { TheOne (IsPitchAt self.entry.0.now which) result }
+    {
         let record = self.0;
         let words = &record[..];
         let (pitches, _) = words[FIRST_PITCH..].as_chunks::<PITCH>();
-        let words = pitches.get(which)?;
-        Some(Pitch {
-            place: Place(natural(words[0])),
-            step: Step::try_from(words[1]).ok()?,
-            octave: Octave::try_from(words[2]).ok()?,
-            alter: i8::try_from(words[3]).ok()?,
-        })
+        pitch_of(pitches.get(which)?)
     }
+}
+
+/// The pitch that has these words, if there is one.
+fn pitch_of(words: &[i32; PITCH]) -> Option<Pitch>
+    ensures { TheOne (IsPitch words.now) result }
+{
+    let [place, step, octave, alter] = *words;
+    Some(Pitch {
+        place: Place(u32::try_from(place).ok()?),
+        step: Step::try_from(step).ok()?,
+        octave: Octave::try_from(octave).ok()?,
+        alter: i8::try_from(alter).ok()?,
+    })
 }
 
 /// Whether a note was stored by the token at a place.
@@ -174,7 +197,9 @@ pub struct Notes<'a>(pub &'a [[i32; NOTE]]);
 
 impl<'a> Notes<'a> {
     /// The first records of lent words, so many.
-    pub fn new(words: &'a [i32], count: usize) -> Notes<'a> {
+    pub fn new(words: &'a [i32], count: usize) -> Notes<'a>
+        ensures { result.0.now ≡ take count (records_in NOTE words.entry.now) }
+    {
         let (records, _) = words.as_chunks::<NOTE>();
         Notes(&records[..count.min(records.len())])
     }
@@ -185,7 +210,10 @@ impl<'a> Notes<'a> {
         self.0.len()
     }
 
-    pub fn get(self, number: usize) -> Option<Note<'a>> {
+    /// The record of a note, by its number from 0.
+    pub fn get(self, number: usize) -> Option<Note<'a>>
+        ensures { TheOne (λ note. IsRecordAt self.entry.0.now number note.0.now) result }
+    {
         let record = self.0.get(number)?;
         Some(Note(record))
     }
@@ -206,7 +234,9 @@ pub struct Bars<'a>(pub &'a [[i32; BAR]]);
 
 impl<'a> Bars<'a> {
     /// The first records of lent words, so many.
-    pub fn new(words: &'a [i32], count: usize) -> Bars<'a> {
+    pub fn new(words: &'a [i32], count: usize) -> Bars<'a>
+        ensures { result.0.now ≡ take count (records_in BAR words.entry.now) }
+    {
         let (records, _) = words.as_chunks::<BAR>();
         Bars(&records[..count.min(records.len())])
     }
@@ -218,35 +248,75 @@ impl<'a> Bars<'a> {
     }
 
     /// What the record of a bar says, by its number from 0.
-    pub fn get(self, number: usize) -> Option<Bar> {
-        let record = self.0.get(number)?;
-        Some(bar_of(record))
+    pub fn get(self, number: usize) -> Option<Bar>
+        ensures { TheOne (IsBarAt self.entry.0.now number) result }
+    {
+        bar_of(self.0.get(number)?)
     }
 }
 
-fn bar_of(record: &[i32; BAR]) -> Bar {
-    Bar {
-        first: natural(record[0]),
-        count: natural(record[1]),
-        clef: Clef::try_from(record[2]).ok(),
-        fifths: if record[3] == 0 {
-            None
-        } else {
-            i8::try_from(record[4]).ok()
-        },
-        meter: meter(record[5], record[6], record[7]),
-        left: Edge::try_from(record[8]).unwrap_or(Edge::Plain),
-        right: Edge::try_from(record[9]).unwrap_or(Edge::Plain),
+/// The clef of a word, none for 0, if the word is one.
+fn clef_of(word: i32) -> Option<Option<Clef>>
+    ensures { TheOne (IsClef word) result }
+{
+    if word == 0 {
+        return Some(None);
+    }
+    let clef = Clef::try_from(word).ok()?;
+    Some(Some(clef))
+}
+
+/// The key of its words, none for twice 0, if they are one.
+fn key_of(keyed: i32, fifths: i32) -> Option<Option<i8>>
+    ensures { TheOne (IsKey keyed fifths) result }
+{
+    match (keyed, fifths) {
+        (0, 0) => Some(None),
+        (1, fifths) => {
+            let fifths = i8::try_from(fifths).ok()?;
+            Some(Some(fifths))
+        }
+        _ => None,
     }
 }
 
-fn meter(numerator: i32, denominator: i32, symbol: i32) -> Option<Meter> {
-    if numerator == 0 {
-        return None;
+/// The symbol of a word, none for 0, if the word is one.
+fn symbol_of(word: i32) -> Option<Option<Symbol>>
+    ensures { TheOne (IsSymbol word) result }
+{
+    if word == 0 {
+        return Some(None);
     }
-    Some(Meter {
+    let symbol = Symbol::try_from(word).ok()?;
+    Some(Some(symbol))
+}
+
+/// The meter of its words, none for three times 0, if they are one.
+fn meter_of(numerator: i32, denominator: i32, symbol: i32) -> Option<Option<Meter>>
+    ensures { TheOne (IsMeter numerator denominator symbol) result }
+{
+    if numerator == 0 && denominator == 0 && symbol == 0 {
+        return Some(None);
+    }
+    Some(Some(Meter {
         numerator: u8::try_from(numerator).ok()?,
         denominator: u8::try_from(denominator).ok()?,
-        symbol: Symbol::try_from(symbol).ok(),
+        symbol: symbol_of(symbol)?,
+    }))
+}
+
+/// The bar that has these words, if there is one.
+fn bar_of(words: &[i32; BAR]) -> Option<Bar>
+    ensures { TheOne (IsBar words.now) result }
+{
+    let [first, count, clef, keyed, fifths, numerator, denominator, symbol, left, right] = *words;
+    Some(Bar {
+        first: u32::try_from(first).ok()?,
+        count: u32::try_from(count).ok()?,
+        clef: clef_of(clef)?,
+        fifths: key_of(keyed, fifths)?,
+        meter: meter_of(numerator, denominator, symbol)?,
+        left: Edge::try_from(left).ok()?,
+        right: Edge::try_from(right).ok()?,
     })
 }

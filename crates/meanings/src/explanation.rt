@@ -45,8 +45,8 @@ impl<'a> fmt::Display for Heading<'a> {
 
 /// What a finding means.
 #[derive(Clone, Copy)]
-struct Explanation<'a> {
-    shown: Shown<'a>,
+struct Explanation<'a, 'd> {
+    shown: Shown<'a, 'd>,
     finding: Finding,
 }
 
@@ -79,12 +79,12 @@ fn likeness(sign: &[u8]) -> &'static str {
     }
 }
 
-impl<'a> Explanation<'a> {
+impl<'a, 'd> Explanation<'a, 'd> {
     /// What stands in the way at the mark: the last record of its bar.
     fn explain_filled<W: fmt::Write>(
         &self,
         f: &mut fmt::Formatter<W>,
-        mark: Mark<'a>,
+        mark: Mark<'d>,
     ) -> fmt::Result {
         match self.shown.last_of_bar(mark) {
             Some(last) => write!(f, "not taken: the bar has {last} already"),
@@ -96,9 +96,9 @@ impl<'a> Explanation<'a> {
     fn explain_later_bar<W: fmt::Write>(
         &self,
         f: &mut fmt::Formatter<W>,
-        mark: Mark<'a>,
+        mark: Mark<'d>,
         word: &str,
-        opener: Option<Mark<'a>>,
+        opener: Option<Mark<'d>>,
     ) -> fmt::Result {
         let Some(opener) = opener else {
             return Ok(());
@@ -112,7 +112,7 @@ impl<'a> Explanation<'a> {
     }
 
     /// A tie needs a note of the open bar right before it.
-    fn explain_tie<W: fmt::Write>(&self, f: &mut fmt::Formatter<W>, mark: Mark<'a>) -> fmt::Result {
+    fn explain_tie<W: fmt::Write>(&self, f: &mut fmt::Formatter<W>, mark: Mark<'d>) -> fmt::Result {
         f.write_str(if self.shown.last_of_bar(mark).is_some() {
             "a rest stands before it, which can't be tied"
         } else {
@@ -123,7 +123,7 @@ impl<'a> Explanation<'a> {
     fn explain_figure<W: fmt::Write>(
         &self,
         f: &mut fmt::Formatter<W>,
-        mark: Mark<'a>,
+        mark: Mark<'d>,
     ) -> fmt::Result {
         match self.shown.figure_opener(mark) {
             Some(opener) => write!(f, "the figure that {opener} opened is not closed yet"),
@@ -134,7 +134,7 @@ impl<'a> Explanation<'a> {
     fn explain_repeat<W: fmt::Write>(
         &self,
         f: &mut fmt::Formatter<W>,
-        mark: Mark<'a>,
+        mark: Mark<'d>,
     ) -> fmt::Result {
         match self.shown.last_of_bar(mark) {
             Some(last) => write!(
@@ -148,7 +148,7 @@ impl<'a> Explanation<'a> {
     fn explain_sign<W: fmt::Write>(
         &self,
         f: &mut fmt::Formatter<W>,
-        mark: Mark<'a>,
+        mark: Mark<'d>,
     ) -> fmt::Result {
         if mark.is_grace_group() {
             return f.write_str("r ends a grace group, and none is open");
@@ -161,7 +161,7 @@ impl<'a> Explanation<'a> {
     fn explain_mark<W: fmt::Write>(
         &self,
         f: &mut fmt::Formatter<W>,
-        mark: Mark<'a>,
+        mark: Mark<'d>,
     ) -> fmt::Result {
         match self.finding.remark {
             Remark::AfterNotes => self.explain_filled(f, mark),
@@ -210,7 +210,7 @@ impl<'a> Explanation<'a> {
     }
 }
 
-impl<'a> fmt::Display for Explanation<'a> {
+impl<'a, 'd> fmt::Display for Explanation<'a, 'd> {
     fn fmt<W: fmt::Write>(&self, f: &mut fmt::Formatter<W>) -> fmt::Result {
         if self.is_bare() {
             return f.write_str("it has no value, so nothing is set");
@@ -225,7 +225,7 @@ impl<'a> fmt::Display for Explanation<'a> {
     }
 }
 
-impl<'a> Shown<'a> {
+impl<'a, 'd> Shown<'a, 'd> {
     /// The findings that are asked for, each in two rows.
     pub(crate) fn show_findings<W: Write, P: Fn(Finding) -> bool>(
         &self,

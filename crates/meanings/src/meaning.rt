@@ -19,14 +19,14 @@ use tokens::rhythm::{Edge, Step};
 
 /// What a mark is and what became of it; the records and the findings tell that where `told` says so.
 #[derive(Clone, Copy)]
-struct Meaning<'a> {
-    shown: Shown<'a>,
-    mark: Mark<'a>,
+struct Meaning<'a, 'd> {
+    shown: Shown<'a, 'd>,
+    mark: Mark<'d>,
     remark: Option<Remark>,
     told: bool,
 }
 
-impl<'a> Meaning<'a> {
+impl<'a, 'd> Meaning<'a, 'd> {
     // ---- what is set for a bar
 
     /// What is set at the start of a bar is lost where no bar follows.
@@ -69,8 +69,8 @@ impl<'a> Meaning<'a> {
         &self,
         f: &mut fmt::Formatter<W>,
         word: &str,
-        opener: Option<Mark<'a>>,
-    ) -> Result<Option<Mark<'a>>, fmt::Error> {
+        opener: Option<Mark<'d>>,
+    ) -> Result<Option<Mark<'d>>, fmt::Error> {
         if !self.told {
             write!(f, "end of a {word}")?;
             return Ok(None);
@@ -131,7 +131,7 @@ impl<'a> Meaning<'a> {
     fn say_grouped<W: fmt::Write>(
         &self,
         f: &mut fmt::Formatter<W>,
-        opener: Mark<'a>,
+        opener: Mark<'d>,
     ) -> fmt::Result {
         if self.remark == Some(Remark::TooFew) {
             return f.write_str(": of fewer than three no tuplet is made");
@@ -169,7 +169,7 @@ impl<'a> Meaning<'a> {
     }
 
     /// What became of it, where the records tell that.
-    fn say_fate<W: fmt::Write>(&self, f: &mut fmt::Formatter<W>, fate: Fate<'a>) -> fmt::Result {
+    fn say_fate<W: fmt::Write>(&self, f: &mut fmt::Formatter<W>, fate: Fate<'d>) -> fmt::Result {
         if self.told {
             write!(f, "{fate}")?;
         }
@@ -249,7 +249,7 @@ impl<'a> Meaning<'a> {
     }
 }
 
-impl<'a> fmt::Display for Meaning<'a> {
+impl<'a, 'd> fmt::Display for Meaning<'a, 'd> {
     fn fmt<W: fmt::Write>(&self, f: &mut fmt::Formatter<W>) -> fmt::Result {
         let marks = self.shown.marks;
         match self.mark.token {
@@ -348,7 +348,7 @@ impl<'a> fmt::Display for Numbers<'a> {
     }
 }
 
-impl<'a> Shown<'a> {
+impl<'a, 'd> Shown<'a, 'd> {
     /// The second layer: a row for each mark but blanks, which do nothing.
     pub fn show_marks<W: Write>(&self, out: &mut W) -> io::Result<()> {
         show_heading(out, "2. Its marks")?;

@@ -11,9 +11,9 @@ fn is_count(mark: &Mark<'_>) -> bool {
     matches!(mark.token, Token::Marking(Marking::GroupCount(Some(_))))
 }
 
-impl<'a> Shown<'a> {
+impl<'a, 'd> Shown<'a, 'd> {
     /// The mark that opened the group that is open at a mark.
-    pub(crate) fn group_opener(&self, mark: Mark<'a>) -> Option<Mark<'a>> {
+    pub(crate) fn group_opener(&self, mark: Mark<'d>) -> Option<Mark<'d>> {
         self.marks.latest_since(
             mark.number,
             |mark| mark.opens_group(),
@@ -22,7 +22,7 @@ impl<'a> Shown<'a> {
     }
 
     /// The mark that opened the beam that is open at a mark.
-    pub(crate) fn beam_opener(&self, mark: Mark<'a>) -> Option<Mark<'a>> {
+    pub(crate) fn beam_opener(&self, mark: Mark<'d>) -> Option<Mark<'d>> {
         self.marks.latest_since(
             mark.number,
             |mark| mark.opens_beam(),
@@ -31,7 +31,7 @@ impl<'a> Shown<'a> {
     }
 
     /// The `!` that opened the figure that is open at a mark; every second one closes.
-    pub(crate) fn figure_opener(&self, mark: Mark<'a>) -> Option<Mark<'a>> {
+    pub(crate) fn figure_opener(&self, mark: Mark<'d>) -> Option<Mark<'d>> {
         let before = self
             .marks
             .count_since(mark.number, |mark| mark.is_figure_mark(), |_| false);
@@ -42,12 +42,12 @@ impl<'a> Shown<'a> {
     }
 
     /// The mark that stored the last record of the bar that is open at a mark.
-    pub(crate) fn last_of_bar(&self, mark: Mark<'a>) -> Option<Mark<'a>> {
+    pub(crate) fn last_of_bar(&self, mark: Mark<'d>) -> Option<Mark<'d>> {
         self.marks.latest_since(mark.number, |mark| mark.stores(), |mark| mark.is_barline())
     }
 
     /// How many records are stored before a mark.
-    fn records_before(&self, mark: Mark<'a>) -> usize
+    fn records_before(&self, mark: Mark<'d>) -> usize
         ensures { result ≤ length self.now.notes.0.now }
     {
         let number = match self.marks.latest(mark.number, |mark| mark.stores()) {
@@ -61,7 +61,7 @@ impl<'a> Shown<'a> {
     }
 
     /// The number of the bar that is open at a mark, from 1: that of the last record, or the next one where a barline follows that record.
-    pub(crate) fn bar_at(&self, mark: Mark<'a>) -> u64 {
+    pub(crate) fn bar_at(&self, mark: Mark<'d>) -> u64 {
         let records = self.records_before(mark);
         if records == 0 {
             return 1;
@@ -78,14 +78,14 @@ impl<'a> Shown<'a> {
     }
 
     /// The records that were stored from one mark on, before another.
-    pub(crate) fn notes_between(&self, from: Mark<'a>, to: Mark<'a>) -> Notes<'a> {
+    pub(crate) fn notes_between(&self, from: Mark<'d>, to: Mark<'d>) -> Notes<'a> {
         let end = self.records_before(to);
         let start = self.records_before(from).min(end);
         Notes(&self.notes.0[start..end])
     }
 
     /// How many records between two marks are no graces.
-    pub(crate) fn timed_between(&self, from: Mark<'a>, to: Mark<'a>) -> usize {
+    pub(crate) fn timed_between(&self, from: Mark<'d>, to: Mark<'d>) -> usize {
         let notes = self.notes_between(from, to).0;
         notes
             .iter()
@@ -94,14 +94,14 @@ impl<'a> Shown<'a> {
     }
 
     /// The tuplet of the first record between two marks that is no grace.
-    pub(crate) fn tuplet_between(&self, from: Mark<'a>, to: Mark<'a>) -> Option<Tuplet> {
+    pub(crate) fn tuplet_between(&self, from: Mark<'d>, to: Mark<'d>) -> Option<Tuplet> {
         let notes = self.notes_between(from, to).0;
         let timed = notes.iter().find(|record| Note(*record).is_timed())?;
         Note(timed).tuplet()
     }
 
     /// Whether a count stands in the group that is open at a mark.
-    pub(crate) fn has_count(&self, mark: Mark<'a>) -> bool {
+    pub(crate) fn has_count(&self, mark: Mark<'d>) -> bool {
         self.marks
             .latest_since(
                 mark.number,

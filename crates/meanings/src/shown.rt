@@ -15,17 +15,17 @@ pub(crate) const MARGIN: usize = 10;
 
 /// A text and its data, where it has any; the marks of the data, the records of its notes, what was found, and why it is refused.
 #[derive(Clone, Copy)]
-pub struct Shown<'a> {
+pub struct Shown<'a, 'd> {
     pub text: &'a [u8],
     pub data: Option<Part<'a>>,
-    pub marks: &'a Marks<'a>,
+    pub marks: &'a Marks<'d>,
     pub notes: Notes<'a>,
     pub findings: &'a [Finding],
     pub refusal: Option<Refused>,
     ghost fits: { length text.now < 2 ^ 31 },
 }
 
-impl<'a> Shown<'a> {
+impl<'a, 'd> Shown<'a, 'd> {
     /// Whether the records and the findings tell what became of each mark: the text is accepted, and no finding was dropped.
     pub(crate) fn tells_all(&self) -> bool
         ensures { IsTrue result ↔

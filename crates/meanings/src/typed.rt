@@ -52,7 +52,7 @@ fn reaches(part: Part<'_>, offset: Offset) -> bool {
     part.start.0 <= offset.0 && offset.0 <= part.end().0
 }
 
-impl<'a> Shown<'a> {
+impl<'a, 'd> Shown<'a, 'd> {
     // ---- the lines of the field form
 
     /// The lines, with what was found in each; of that which has the data only the beginning, since the data is shown on its own.
