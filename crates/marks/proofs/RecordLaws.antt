@@ -1,5 +1,6 @@
 -- Kinds and pitches of notes by their words, and one more finding. Assumes nothing.
-use Rattle.std.proofs.Common.{ℕ, zero, suc, ◌≡◌, ◌<◌, ◌∙◌, refl, List, [], ◌∷◌, ◌++◌, ℤ, pos, negsuc, length, drop, slice_index_or, subst, sym, ap}
+use Rattle.std.proofs.Common.{ℕ, zero, suc, ◌≡◌, ◌+◌, ◌<◌, ◌∙◌, refl, List, [], ◌∷◌, ◌++◌, ℤ, pos, negsuc, length, take, drop, get_or, slice_index_or, subst, sym, ap}
+use Rattle.std.proofs.lemmas.List.{take_more}
 use Rattle.std.specs.Prelude.{Result, Ok, Err, Option, Some, None}
 use Rattle.std.specs.Result.{result_unwrap_or}
 use Rattle.std.specs.List.{cons_option}
@@ -36,11 +37,14 @@ kind_read word (Ok a) h = subst (λ w. a ≡ kind_of w) h (sym (kind_numbered a)
 kind_read word (Err e) h = sym (no_kind word h.1)
 
 -- a pitch is that of the words of its number
-pub pitch_at : (words : List ℤ) (which : ℕ) (pitches : List (List ℤ)) (own : List ℤ) (r : Option Pitch)
-    → pitches ≡ records_in PITCH (drop FIRST_PITCH words) → which < length pitches → own ≡ slice_index_or pitches which []
+pub pitch_at : (words : List ℤ) (which : ℕ) (part : List ℤ) (pitches : List (List ℤ)) (own : List ℤ) (r : Option Pitch)
+    → part ≡ drop FIRST_PITCH words → pitches ≡ records_in PITCH part → which < length pitches → own ≡ slice_index_or pitches which []
     → TheOne (IsPitch own) r → TheOne (IsPitchAt words which) r
-pitch_at words which pitches own None p w e one = λ q h. one q (subst (λ own. IsPitch own q) (sym (e ∙ ap (λ ps. slice_index_or ps which []) p)) h.pitch)
-pitch_at words which pitches own (Some q) p w e one = record { within = subst (λ ps. which < length ps) p w; pitch = subst (λ own. IsPitch own q) (e ∙ ap (λ ps. slice_index_or ps which []) p) one }
+pitch_at words which part pitches own r p k w e one = go r (k ∙ ap (records_in PITCH) p) one
+  where
+    go : (r : Option Pitch) → pitches ≡ records_in PITCH (drop FIRST_PITCH words) → TheOne (IsPitch own) r → TheOne (IsPitchAt words which) r
+    go None p one = λ q h. one q (subst (λ own. IsPitch own q) (sym (e ∙ ap (λ ps. slice_index_or ps which []) p)) h.pitch)
+    go (Some q) p one = record { within = subst (λ ps. which < length ps) p w; pitch = subst (λ own. IsPitch own q) (e ∙ ap (λ ps. slice_index_or ps which []) p) one }
 
 -- one more diagnostic, and what is read of it
 pub findings_push : (ds : List Diagnostic) (findings : List Finding) (d : Diagnostic) (r : Option Finding)
@@ -51,3 +55,8 @@ findings_push (x ∷ ds) findings d r h one = record { first = h.first; behind =
     cons_append : (r : Option Finding) (fs gs : List Finding) → cons_option r fs ++ gs ≡ cons_option r (fs ++ gs)
     cons_append None fs gs = refl
     cons_append (Some f) fs gs = refl
+
+pub findings_more : (ds : List Diagnostic) (i : ℕ) (findings next : List Finding) (d : Diagnostic) (r : Option Finding)
+    → i < length ds → AreFindings (take i ds) findings → TheOne (IsFinding (get_or ds i d)) r → next ≡ findings ++ cons_option r []
+    → AreFindings (take (i + 1) ds) next
+findings_more ds i findings next d r w h one e = rw (take_more ds i d w, e) (findings_push (take i ds) findings (get_or ds i d) r h one)
