@@ -1,5 +1,5 @@
 -- Characters as they are shown. Assumes nothing.
-use Rattle.std.specs.Prelude.{ℕ, ◌≡◌, ◌<◌, Bool, ◌&&◌, List, [], ◌++◌, length, take, drop, leb, if◌then◌else◌, Option, MatchOption}
+use Rattle.std.specs.Prelude.{ℕ, zero, suc, ◌+◌, ◌≡◌, ◌<◌, Bool, ◌&&◌, List, [], ◌∷◌, ◌++◌, length, take, drop, leb, if◌then◌else◌, Option, MatchOption}
 use Rattle.std.specs.Iterator.{Count, at_most}
 use denote.Ref.{Bor}
 use Rattle.rules.specs.Characters.{is_formed}
@@ -17,6 +17,14 @@ shown_size rest =
     else if formed_in 3 rest then 3
     else if formed_in 4 rest then 4
     else 1
+
+-- the size of the first characters, so many at most
+abbrev pub beginning_size : ℕ → List ℕ → ℕ
+beginning_size zero rest = 0
+beginning_size (suc most) [] = 0
+beginning_size (suc most) (b ∷ rest) =
+    let size = shown_size (b ∷ rest) in
+    size + beginning_size most (drop size (b ∷ rest))
 
 -- it is the first character of the bytes, and these stand behind it
 pub record IsFirstCharacter (bytes character behind : List ℕ) : Type 0 where

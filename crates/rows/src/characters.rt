@@ -1,6 +1,6 @@
 // Characters of a text as they are shown: a byte that is part of no well-formed character stands for one.
-ghost use Rattle.std.specs.Prelude.{◌≡◌, ◌<◌, ◌≤◌, length};
-ghost use Rattle.rows.specs.Shown.{formed_in, shown_size};
+ghost use Rattle.std.specs.Prelude.{◌≡◌, ◌<◌, ◌≤◌, length, take};
+ghost use Rattle.rows.specs.Shown.{formed_in, shown_size, beginning_size};
 
 use scan::characters::is_utf8;
 
@@ -66,7 +66,7 @@ impl<'t> Iterator for Characters<'t> {
 
 /// The first characters of a text, so many at most.
 pub fn beginning(text: &[u8], most: usize) -> &[u8]
-    ensures { length result.now ≤ length text.now }
+    ensures { result.now ≡ take (beginning_size most text.now) text.entry.now }
 {
     let mut rest = text;
     for _ in 0..most {
