@@ -3,6 +3,7 @@ ghost use Rattle.std.specs.Prelude.{◌≤◌, length, IfSome};
 
 use scan::classes::{is_text, starts_with};
 use std::env::{Env, FillError};
+use tokens::cut::Place;
 
 /// The longest word that an option or a layer's name has, and a few bytes more.
 const WORD: usize = 16;
@@ -44,7 +45,7 @@ pub(crate) struct Options {
     /// The one layer that is shown; all where it is none.
     pub layer: Option<Layer>,
     /// The place of the one letter that is explained; all where it is none.
-    pub letter: Option<usize>,
+    pub letter: Option<Place>,
     /// The number of the argument that is a text; the input where it is none.
     pub text: Option<usize>,
     /// The number of the first argument that is not understood.
@@ -60,21 +61,21 @@ enum Next {
     Text,
 }
 
-/// The number, from 1, that up to five digits stand for.
-fn number_of(argument: &[u8]) -> Option<usize> {
+/// The place, from 1, that up to five digits stand for.
+fn place_of(argument: &[u8]) -> Option<Place> {
     if 5 < argument.len() {
         return None;
     }
-    let mut number: usize = 0;
+    let mut number: u32 = 0;
     for digit in argument {
         if !digit.is_ascii_digit() {
             return None;
         }
         number = number
             .saturating_mul(10)
-            .saturating_add(usize::from(*digit - b'0'));
+            .saturating_add(u32::from(*digit - b'0'));
     }
-    if number == 0 { None } else { Some(number) }
+    if number == 0 { None } else { Some(Place(number)) }
 }
 
 /// Whether an argument looks like an option: two hyphens and three or more small letters, then nothing or `=`.
@@ -156,7 +157,7 @@ impl Options {
                 Some(layer) => self.layer = Some(layer),
                 None => self.refuse(number),
             },
-            Next::Letter => match number_of(argument) {
+            Next::Letter => match place_of(argument) {
                 Some(letter) => {
                     self.layer = Some(Layer::Why);
                     self.letter = Some(letter);

@@ -3,12 +3,14 @@
 // with `--lines`, each line is one. The line end behind a text is no part of it.
 #![tactic(auto)]
 
+ghost use Rattle.std.specs.Prelude.{◌≤◌, length};
+ghost use Rattle.rules.specs.Limits.{text_limit};
+
 mod arguments; // arguments.rt: what the program is asked for
 mod texts; // texts.rt: the texts of an input
 
 use arguments::{Layer, Options, argument, options_given};
-use ending::Reading;
-use fields::{Fields, fields_of};
+use fields::fields_of;
 use limits::Pae;
 use marks::findings::Finding;
 use marks::lookback::Marks;
@@ -20,131 +22,120 @@ use records::cells::{DIAGNOSTIC, clear};
 use rows::headings::show_heading;
 use rows::terms::Counted;
 use rows::text::Text;
-use scan::lines::{Line, Offset, Part};
+use scan::lines::{Offset, Part};
 use std::alloc::Global;
 use std::env::Env;
 use std::io;
 use std::io::{Read, Write};
-use stores::diagnostic::Diagnostic;
+use stores::cells::{BAR, NOTE};
+use stores::diagnostic::{Diagnostic, MAX_DIAGNOSTICS};
 use tables::bars::{Defaults, show_bars};
 use tables::notes::show_notes;
-use texts::{end_of_line, keysig_line, separator, text_end, without_line_end};
+use texts::{is_separator, keysig_line, without_line_end};
 use tokens::cut::Place;
 use whys::why::{KeyField, Whys};
 
-// The input is shorter than this.
+/// The input is shorter than this.
 const INPUT: usize = 131072;
 
-// Lent for a reading: 4,000 notes, as many in the figure, 4,000 bars, 1,024 diagnostics.
-const NOTE_WORDS: usize = 176000;
+/// Lent for a reading: 4,000 notes, as many in the figure, 4,000 bars, 1,024 diagnostics.
+const NOTE_WORDS: usize = 4000 * NOTE;
 
-const BAR_WORDS: usize = 40000;
+const BAR_WORDS: usize = 4000 * BAR;
 
-const SCRATCH: usize = Pae::MAX_DIAGNOSTICS * DIAGNOSTIC;
+const DIAGNOSTIC_WORDS: usize = MAX_DIAGNOSTICS * DIAGNOSTIC;
 
-const CELLS: usize = Pae::MAX_DIAGNOSTICS;
+// ---- a reading
 
-// ---- a text
+/// How many records and diagnostics a reading has.
+#[derive(Clone, Copy)]
+struct Counts {
+    notes: u32,
+    bars: u32,
+    diagnostics: u32,
+}
 
-// The key of the fields; the last keysig field stands in this line.
-fn key_field(fields: Fields, line: usize) -> KeyField {
-    let alters = fields.attributes.alters;
-    KeyField {
-        alters,
-        line: match u32::try_from(line) {
-            Ok(line) if 0 < line => Some(Line(line)),
-            _ => None,
+/// What the fields of a text set: its data, where it has any, the key, and which attributes they leave unset.
+#[derive(Clone, Copy)]
+struct Given<'t> {
+    data: Option<Part<'t>>,
+    key: KeyField,
+    unset: Defaults,
+}
+
+/// The part of a text between two offsets.
+fn part_of(text: &[u8], start: usize, end: usize) -> Option<Part<'_>>
+    requires { length text.now ≤ text_limit }
+{
+    let bytes = text.get(start..end)?;
+    let start = Offset(u32::try_from(start).ok()?);
+    Some(Part { start, bytes })
+}
+
+fn given<'t>(text: &'t [u8], words: &mut [i32]) -> Given<'t>
+    requires { length text.now ≤ text_limit }
+{
+    clear(words);
+    let fields = fields_of(text, words);
+    let attributes = fields.attributes;
+    Given {
+        data: if fields.present {
+            part_of(text, fields.start, fields.end)
+        } else {
+            None
+        },
+        key: KeyField {
+            alters: attributes.alters,
+            line: keysig_line(text),
+        },
+        unset: Defaults {
+            clef: attributes.clef == 0,
+            key: !attributes.keyed,
         },
     }
 }
 
-// The layers of a text that is accepted, behind its marks; its last keysig field stands in this line.
-fn show_layers<W: Write>(
-    out: &mut W,
-    alloc: Global,
-    marks: &Marks<'_>,
-    fields: Fields,
-    line: usize,
-    reading: Reading,
-    notes: &[i32],
-    bars: &[i32],
-    options: Options,
-) -> io::Result<()> {
-    let notes = Notes::new(notes, reading.notes as usize);
-    if options.has(Layer::Notes) {
-        show_notes(out, alloc, notes, marks)?;
-    }
-    if options.has(Layer::Bars) {
-        let defaults = Defaults {
-            clef: fields.attributes.clef == 0,
-            key: !fields.attributes.keyed,
-        };
-        let bars = Bars::new(bars, reading.bars as usize);
-        show_bars(out, bars, notes, marks, defaults)?;
-    }
-    if options.has(Layer::Why) {
-        let key = key_field(fields, line);
-        let whys = Whys { marks, notes, key };
-        let letter = options.letter.unwrap_or(0);
-        let place = match u32::try_from(letter) {
-            Ok(letter) if 0 < letter => Some(Place(letter)),
-            _ => None,
-        };
-        whys.show(out, place)?;
-    }
-    Ok(())
-}
-
-// Whether the data of a text was looked at.
-fn is_read(refusal: u32) -> bool {
-    (refusal == 0) | (5 < refusal)
-}
-
-// What came of the text, in the last row.
-fn show_outcome<W: Write>(out: &mut W, reading: Reading) -> io::Result<()> {
-    out.write_all(b"\n")?;
-    if reading.number != 0 {
-        let number = reading.number;
-        return writeln!(out, "refused {number}");
-    }
-    let notes = Counted(reading.notes, "note");
-    let bars = Counted(reading.bars, "bar");
-    let diagnostics = Counted(reading.diagnostics, "diagnostic");
-    write!(out, "accepted: {notes}, {bars}, {diagnostics}")?;
-    if reading.diagnostics as usize == CELLS {
-        out.write_all(b" or more")?;
-    }
-    out.write_all(b"\n")
-}
-
-// Why the text is refused.
-fn refusal_of(reading: Reading) -> Option<Refused> {
+/// Reads a text into what is lent; how much of it holds records and diagnostics, or why the text is refused.
+fn read_text(
+    text: &[u8],
+    notes: &mut [i32],
+    bars: &mut [i32],
+    figure: &mut [i32],
+    diagnostics: &mut [i32],
+) -> Result<Counts, Refused> {
+    clear(diagnostics);
+    let reading = read(text, notes, bars, figure, diagnostics, MAX_DIAGNOSTICS);
     if reading.number == 0 {
-        return None;
-    }
-    let place = if reading.place == 0 {
-        None
+        Ok(Counts {
+            notes: reading.notes,
+            bars: reading.bars,
+            diagnostics: reading.diagnostics,
+        })
     } else {
-        Some(Place(reading.place))
-    };
-    Some(Refused {
-        number: reading.number,
-        place,
-    })
+        Err(Refused {
+            number: reading.number,
+            place: if reading.place == 0 {
+                None
+            } else {
+                Some(Place(reading.place))
+            },
+        })
+    }
 }
 
-// What was found, by the words of so many diagnostics.
+/// What was found, by the words of so many diagnostics.
 fn findings_in(alloc: Global, words: &[i32], count: usize) -> io::Result<Vec<Finding>> {
     let mut findings = Vec::new(alloc);
     let (records, _) = words.as_chunks::<DIAGNOSTIC>();
     for words in records.iter().take(count) {
+        let [number, place_kind, place, value_kind, start, end] = *words;
         let diagnostic = Diagnostic {
-            number: words[0],
-            place_kind: words[1],
-            place: words[2],
-            value_kind: words[3],
-            start: words[4],
-            end: words[5],
+            number,
+            place_kind,
+            place,
+            value_kind,
+            start,
+            end,
         };
         if let Some(finding) = Finding::read(diagnostic) {
             findings.push(finding)?;
@@ -153,160 +144,175 @@ fn findings_in(alloc: Global, words: &[i32], count: usize) -> io::Result<Vec<Fin
     Ok(findings)
 }
 
-// The first layer, which a refused text always has, and the marks of data that was looked at.
-fn show_above<W: Write>(out: &mut W, shown: Shown<'_>, options: Options) -> io::Result<()> {
-    if options.has(Layer::Line) | shown.refusal.is_some() {
-        shown.show_typed(out)?;
-    }
-    let looked_at = match shown.refusal {
-        Some(refused) => is_read(refused.number),
+// ---- a text
+
+/// Whether the data of a text was looked at.
+fn is_looked_at(refusal: Option<Refused>) -> bool {
+    match refusal {
+        Some(refused) => 5 < refused.number,
         None => true,
-    };
-    if options.has(Layer::Marks) & looked_at {
-        shown.show_marks(out)?;
     }
-    Ok(())
 }
 
-// The layers of a text with these data.
-fn show_part<W: Write>(
+/// The layers that are asked for; of a refused text the first, and its marks, if its data was looked at.
+fn show_layers<'a, 'd, W: Write>(
     out: &mut W,
     alloc: Global,
-    text: &[u8],
-    data: Option<Part<'_>>,
-    marks: &Marks<'_>,
-    fields: Fields,
-    reading: Reading,
-    notes: &[i32],
-    bars: &[i32],
-    diagnostics: &[i32],
+    text: &'a [u8],
+    given: Given<'a>,
+    marks: &'a Marks<'d>,
+    notes: Notes<'a>,
+    bars: Bars<'a>,
+    findings: &'a [Finding],
+    refusal: Option<Refused>,
     options: Options,
-) -> io::Result<()> {
-    let records = Notes::new(notes, reading.notes as usize);
-    let findings = findings_in(alloc, diagnostics, reading.diagnostics as usize)?;
+) -> io::Result<()>
+    requires { length text.now ≤ text_limit }
+{
     let shown = Shown {
         text,
-        data,
+        data: given.data,
         marks,
-        notes: records,
-        findings: findings.as_slice(),
-        refusal: refusal_of(reading),
+        notes,
+        findings,
+        refusal,
     };
-    show_above(out, shown, options)?;
-    if reading.number == 0 {
-        let line = keysig_line(text);
-        show_layers(
-            out, alloc, marks, fields, line, reading, notes, bars, options,
-        )?;
+    if options.has(Layer::Line) || refusal.is_some() {
+        shown.show_typed(out)?;
+    }
+    if options.has(Layer::Marks) && is_looked_at(refusal) {
+        shown.show_marks(out)?;
+    }
+    if refusal.is_some() {
+        return Ok(());
+    }
+    if options.has(Layer::Notes) {
+        show_notes(out, alloc, notes, marks)?;
+    }
+    if options.has(Layer::Bars) {
+        show_bars(out, bars, notes, marks, given.unset)?;
+    }
+    if options.has(Layer::Why) {
+        let whys = Whys {
+            marks,
+            notes,
+            key: given.key,
+        };
+        whys.show(out, options.letter)?;
     }
     Ok(())
 }
 
-// A text that is longer than a reading takes.
+/// What came of a text, in the last row.
+fn show_outcome<W: Write>(out: &mut W, outcome: Result<Counts, Refused>) -> io::Result<()> {
+    writeln!(out)?;
+    match outcome {
+        Ok(counts) => {
+            let notes = Counted(counts.notes, "note");
+            let bars = Counted(counts.bars, "bar");
+            let diagnostics = Counted(counts.diagnostics, "diagnostic");
+            let more = if counts.diagnostics as usize == MAX_DIAGNOSTICS {
+                " or more"
+            } else {
+                ""
+            };
+            writeln!(out, "accepted: {notes}, {bars}, {diagnostics}{more}")
+        }
+        Err(refused) => {
+            let number = refused.number;
+            writeln!(out, "refused {number}")
+        }
+    }
+}
+
+/// A text that is longer than a reading takes.
 fn refuse_long<W: Write>(out: &mut W, text: &[u8]) -> io::Result<()> {
-    show_heading(out, "1. The typed line")?;
     let refused = Refused {
         number: 1,
         place: None,
     };
+    show_heading(out, "1. The typed line")?;
     show_refusal(out, text, refused)?;
-    out.write_all(b"\n")?;
-    out.write_all(b"refused 1\n")
+    show_outcome(out, Err(refused))
 }
 
-// Reads a text and shows it.
+/// Reads a text and shows it.
 fn show_one<W: Write>(out: &mut W, alloc: Global, text: &[u8], options: Options) -> io::Result<()> {
     if Pae::MAX_INPUT_BYTES < text.len() {
-        refuse_long(out, text)?;
-        return Ok(());
+        return refuse_long(out, text);
     }
     let mut notes = [0i32; NOTE_WORDS];
     let mut bars = [0i32; BAR_WORDS];
     let mut figure = [0i32; NOTE_WORDS];
-    let mut scratch = [0i32; SCRATCH];
-    clear(&mut scratch);
-    let fields = fields_of(text, &mut scratch);
-    clear(&mut scratch);
-    let reading = read(
+    let mut diagnostics = [0i32; DIAGNOSTIC_WORDS];
+    let given = given(text, &mut diagnostics);
+    let outcome = read_text(
         text,
         &mut notes,
         &mut bars,
         &mut figure,
-        &mut scratch,
-        CELLS,
+        &mut diagnostics,
     );
-    let start = fields.start;
-    let end = fields.end;
-    if start <= end {
-        if end <= text.len() {
-            let part = Part {
-                start: Offset(start as u32),
-                bytes: &text[start..end],
-            };
-            let records = Notes::new(&notes, reading.notes as usize);
-            let marks = Marks::new(alloc, part, records)?;
-            let data = if fields.present { Some(part) } else { None };
-            show_part(
-                out, alloc, text, data, &marks, fields, reading, &notes, &bars, &scratch, options,
-            )?;
-        }
-    }
-    show_outcome(out, reading)
+    let counts = outcome.unwrap_or(Counts {
+        notes: 0,
+        bars: 0,
+        diagnostics: 0,
+    });
+    let notes = Notes::new(&notes, counts.notes as usize);
+    let bars = Bars::new(&bars, counts.bars as usize);
+    let findings = findings_in(alloc, &diagnostics, counts.diagnostics as usize)?;
+    let data = given.data.unwrap_or(Part::new(b""));
+    let marks = Marks::new(alloc, data, notes)?;
+    show_layers(
+        out,
+        alloc,
+        text,
+        given,
+        &marks,
+        notes,
+        bars,
+        findings.as_slice(),
+        outcome.err(),
+        options,
+    )?;
+    show_outcome(out, outcome)
 }
 
 // ---- the texts of an input
 
-// A row between two texts.
+/// A row between two texts.
 fn show_rule<W: Write>(out: &mut W) -> io::Result<()> {
-    out.write_all(b"\n")?;
-    out.write_all(
-        b"================================================================================\n",
-    )
+    writeln!(out, "\n{:=<80}", "")
 }
 
-// The texts of the input, a line that separates between two.
+/// The texts of the input, a line that separates between two.
 fn show_all<W: Write>(
     out: &mut W,
     alloc: Global,
     input: &[u8],
     options: Options,
 ) -> io::Result<()> {
-    let mut at = 0;
-    while at < input.len() {
-        let end = text_end(input, at);
-        let last = without_line_end(input, at, end);
-        show_one(out, alloc, &input[at..last], options)?;
-        let size = separator(&input[end..]);
-        if size == 0 {
-            return Ok(());
+    let mut start = 0usize;
+    let mut end = 0usize;
+    for line in input.split_inclusive(|byte| *byte == b'\n') {
+        let next = end.saturating_add(line.len());
+        if is_separator(line) {
+            let text = input.get(start..end).unwrap_or(b"");
+            show_one(out, alloc, without_line_end(text), options)?;
+            if next < input.len() {
+                show_rule(out)?;
+            }
+            start = next;
         }
-        if input.len() - end <= size {
-            return Ok(());
-        }
-        at = end + size;
-        show_rule(out)?;
+        end = next;
     }
-    Ok(())
+    match input.get(start..) {
+        None | Some([]) => Ok(()),
+        Some(text) => show_one(out, alloc, without_line_end(text), options),
+    }
 }
 
-// A line of the input as a text, with its number; an empty line is none. Whether it is one.
-fn show_numbered<W: Write>(
-    out: &mut W,
-    alloc: Global,
-    line: &[u8],
-    number: usize,
-    options: Options,
-) -> io::Result<bool> {
-    if line.len() == 0 {
-        return Ok(false);
-    }
-    show_rule(out)?;
-    writeln!(out, "Line {number}")?;
-    show_one(out, alloc, line, options)?;
-    Ok(true)
-}
-
-// Each line of the input as a text.
+/// Each line of the input as a text, with its number; an empty line is none.
 fn show_lines<W: Write>(
     out: &mut W,
     alloc: Global,
@@ -314,19 +320,21 @@ fn show_lines<W: Write>(
     options: Options,
 ) -> io::Result<()> {
     let mut any = false;
-    let mut number = 0;
-    let mut at = 0;
-    while at < input.len() {
-        let end = end_of_line(input, at);
-        let last = without_line_end(input, at, end);
-        number += 1;
-        any = any | show_numbered(out, alloc, &input[at..last], number, options)?;
-        at = end + 1;
+    for (before, line) in input.split_inclusive(|byte| *byte == b'\n').enumerate() {
+        let text = without_line_end(line);
+        if !text.is_empty() {
+            show_rule(out)?;
+            let number = before.saturating_add(1);
+            writeln!(out, "Line {number}")?;
+            show_one(out, alloc, text, options)?;
+            any = true;
+        }
     }
-    if !any {
-        out.write_all(b"No line of the input has a text.\n")?;
+    if any {
+        Ok(())
+    } else {
+        out.write_all(b"No line of the input has a text.\n")
     }
-    Ok(())
 }
 
 fn show_input<W: Write>(
@@ -335,15 +343,13 @@ fn show_input<W: Write>(
     input: &[u8],
     options: Options,
 ) -> io::Result<()> {
-    if input.len() == 0 {
-        show_one(out, alloc, input, options)?;
-        return Ok(());
+    if input.is_empty() {
+        show_one(out, alloc, input, options)
+    } else if options.lines {
+        show_lines(out, alloc, input, options)
+    } else {
+        show_all(out, alloc, input, options)
     }
-    if options.lines {
-        show_lines(out, alloc, input, options)?;
-        return Ok(());
-    }
-    show_all(out, alloc, input, options)
 }
 
 // ---- the program

@@ -11,6 +11,9 @@ use std::io::Write;
 /// So many line ends are named.
 const NAMED: usize = 8;
 
+/// So many tens of places fit the longest text, and a few places more, above which the next ten's number is cut.
+const TENS: usize = 6553;
+
 /// The ruler above a piece of the data: the first place, and each tenth by its number.
 fn show_ruler<W: Write>(out: &mut W, piece: Piece<'_>) -> io::Result<()> {
     let label = "  place";
@@ -18,7 +21,11 @@ fn show_ruler<W: Write>(out: &mut W, piece: Piece<'_>) -> io::Result<()> {
     for before in piece.before / 10..piece.end.div_ceil(10) {
         let first = if before == 0 { '1' } else { '.' };
         let tens = before + 1;
-        write!(out, "{first}...:{tens:.>4}0")?;
+        if tens <= TENS {
+            write!(out, "{first}...:{tens:.>4}0")?;
+        } else {
+            out.write_all(b"....:6....")?;
+        }
     }
     writeln!(out)
 }
