@@ -3,355 +3,377 @@
 // with `--lines`, each line is one. The line end behind a text is no part of it.
 #![tactic(auto)]
 
+ghost use Rattle.std.specs.Prelude.{◌≤◌, length};
+ghost use Rattle.rules.specs.Limits.{text_limit};
+
 mod arguments; // arguments.rt: what the program is asked for
 mod texts; // texts.rt: the texts of an input
 
-ghost use Rattle.std.specs.Io.{ReadsAtMost};
-
-use arguments::{ALL, BARS, LINE, MARKS, NOTES, Options, WHY, argument, options_given};
-use ending::Reading;
-use fields::{Fields, fields_of};
+use arguments::{Layer, Options, argument, options_given};
+use fields::fields_of;
 use limits::Pae;
-use marks::table::{TABLE, enter_marks, enter_stored};
-use meanings::meaning::show_marks;
+use marks::findings::Finding;
+use marks::lookback::Marks;
+use marks::records::{Bars, Notes};
+use meanings::refusals::{Refused, show_refusal};
+use meanings::shown::Shown;
 use reading::read::read;
 use records::cells::{DIAGNOSTIC, clear};
-use rows::row::{end_row, say, say_heading, say_number, say_row, say_text};
-use rows::terms::say_counted;
-use show::read_full;
+use rows::headings::show_heading;
+use rows::terms::Counted;
+use rows::text::Text;
+use scan::lines::{Offset, Part};
+use std::alloc::Global;
 use std::env::Env;
 use std::io;
-use std::io::Write;
+use std::io::{Read, Write};
+use stores::cells::{BAR, NOTE};
+use stores::diagnostic::{Diagnostic, MAX_DIAGNOSTICS};
 use tables::bars::{Defaults, show_bars};
 use tables::notes::show_notes;
-use texts::{end_of_line, keysig_line, separator, text_end, without_line_end};
-use typed::line::{Outcome, show_typed};
-use typed::notices::show_refusal;
-use whys::why::{KeyField, show_whys};
+use texts::{is_separator, keysig_line, without_line_end};
+use tokens::cut::Place;
+use whys::why::{KeyField, Whys};
 
-// The input is shorter than this.
+/// The input is shorter than this.
 const INPUT: usize = 131072;
 
-// Lent for a reading: 4,000 notes, as many in the figure, 4,000 bars, 1,024 diagnostics.
-const NOTE_WORDS: usize = 176000;
+/// Lent for a reading: 4,000 notes, as many in the figure, 4,000 bars, 1,024 diagnostics.
+const NOTE_WORDS: usize = 4000 * NOTE;
 
-const BAR_WORDS: usize = 40000;
+const BAR_WORDS: usize = 4000 * BAR;
 
-const SCRATCH: usize = Pae::MAX_DIAGNOSTICS * DIAGNOSTIC;
+const DIAGNOSTIC_WORDS: usize = MAX_DIAGNOSTICS * DIAGNOSTIC;
 
-const CELLS: usize = Pae::MAX_DIAGNOSTICS;
+// ---- a reading
+
+/// How many records and diagnostics a reading has.
+#[derive(Clone, Copy)]
+struct Counts {
+    notes: u32,
+    bars: u32,
+    diagnostics: u32,
+}
+
+/// What the fields of a text set: its data, where it has any, the key, and which attributes they leave unset.
+#[derive(Clone, Copy)]
+struct Given<'t> {
+    data: Option<Part<'t>>,
+    key: KeyField,
+    unset: Defaults,
+}
+
+/// The part of a text between two offsets.
+fn part_of(text: &[u8], start: usize, end: usize) -> Option<Part<'_>>
+    requires { length text.now ≤ text_limit }
+{
+    let bytes = text.get(start..end)?;
+    let start = Offset(u32::try_from(start).ok()?);
+    Some(Part { start, bytes })
+}
+
+fn given<'t>(text: &'t [u8], words: &mut [i32]) -> Given<'t>
+    requires { length text.now ≤ text_limit }
+{
+    clear(words);
+    let fields = fields_of(text, words);
+    let attributes = fields.attributes;
+    Given {
+        data: if fields.present {
+            part_of(text, fields.start, fields.end)
+        } else {
+            None
+        },
+        key: KeyField {
+            alters: attributes.alters,
+            line: keysig_line(text),
+        },
+        unset: Defaults {
+            clef: attributes.clef == 0,
+            key: !attributes.keyed,
+        },
+    }
+}
+
+/// Reads a text into what is lent; how much of it holds records and diagnostics, or why the text is refused.
+fn read_text(
+    text: &[u8],
+    notes: &mut [i32],
+    bars: &mut [i32],
+    figure: &mut [i32],
+    diagnostics: &mut [i32],
+) -> Result<Counts, Refused> {
+    clear(diagnostics);
+    let reading = read(text, notes, bars, figure, diagnostics, MAX_DIAGNOSTICS);
+    if reading.number == 0 {
+        Ok(Counts {
+            notes: reading.notes,
+            bars: reading.bars,
+            diagnostics: reading.diagnostics,
+        })
+    } else {
+        Err(Refused {
+            number: reading.number,
+            place: if reading.place == 0 {
+                None
+            } else {
+                Some(Place(reading.place))
+            },
+        })
+    }
+}
+
+/// What was found, by the words of so many diagnostics.
+fn findings_in(alloc: Global, words: &[i32], count: usize) -> io::Result<Vec<Finding>> {
+    let mut findings = Vec::new(alloc);
+    let (records, _) = words.as_chunks::<DIAGNOSTIC>();
+    for words in records.iter().take(count) {
+        let [number, place_kind, place, value_kind, start, end] = *words;
+        let diagnostic = Diagnostic {
+            number,
+            place_kind,
+            place,
+            value_kind,
+            start,
+            end,
+        };
+        if let Some(finding) = Finding::read(diagnostic) {
+            findings.push(finding)?;
+        }
+    }
+    Ok(findings)
+}
 
 // ---- a text
 
-// Whether a layer is asked for.
-fn is_asked(options: Options, layer: u8) -> bool {
-    (options.layer == ALL) | (options.layer == layer)
+/// Whether the data of a text was looked at.
+fn is_looked_at(refusal: Option<Refused>) -> bool {
+    match refusal {
+        Some(refused) => 5 < refused.number,
+        None => true,
+    }
 }
 
-// The key of the fields; the last keysig field stands in this line.
-fn key_field(fields: Fields, line: usize) -> KeyField {
-    let alters = fields.attributes.alters;
-    KeyField { alters, line }
-}
-
-// The layers of a text that is accepted, behind its marks; its last keysig field stands in this line.
-fn show_layers<W: Write>(
+/// The layers that are asked for; of a refused text the first, and its marks, if its data was looked at.
+fn show_layers<'a, 'd, W: Write>(
     out: &mut W,
-    data: &[u8],
-    table: &[usize],
-    count: usize,
-    fields: Fields,
-    line: usize,
-    reading: Reading,
-    notes: &[i32],
-    bars: &[i32],
+    alloc: Global,
+    text: &'a [u8],
+    given: Given<'a>,
+    marks: &'a Marks<'d>,
+    notes: Notes<'a>,
+    bars: Bars<'a>,
+    findings: &'a [Finding],
+    refusal: Option<Refused>,
     options: Options,
-) -> io::Result<()> {
-    if is_asked(options, NOTES) {
-        show_notes(out, notes, reading.notes, data, table, count)?;
-    }
-    if is_asked(options, BARS) {
-        let defaults = Defaults {
-            clef: fields.attributes.clef == 0,
-            key: !fields.attributes.keyed,
-        };
-        show_bars(out, bars, reading.bars, notes, data, table, count, defaults)?;
-    }
-    if is_asked(options, WHY) {
-        let key = key_field(fields, line);
-        show_whys(out, data, table, count, notes, key, options.letter)?;
-    }
-    Ok(())
-}
-
-// Whether the data of a text was looked at.
-fn is_read(refusal: u32) -> bool {
-    (refusal == 0) | (5 < refusal)
-}
-
-// What came of the text, in the last row.
-fn show_outcome<W: Write>(out: &mut W, reading: Reading) -> io::Result<()> {
-    end_row(out)?;
-    if reading.number != 0 {
-        say(out, b"refused ")?;
-        say_number(out, reading.number as u64)?;
-        end_row(out)?;
-        return Ok(());
-    }
-    say(out, b"accepted: ")?;
-    say_counted(out, reading.notes as u64, b"note")?;
-    say(out, b", ")?;
-    say_counted(out, reading.bars as u64, b"bar")?;
-    say(out, b", ")?;
-    say_counted(out, reading.diagnostics as u64, b"diagnostic")?;
-    if reading.diagnostics as usize == CELLS {
-        say(out, b" or more")?;
-    }
-    end_row(out)
-}
-
-// The first layer, which a refused text always has, and the marks of data that was looked at; so many marks.
-fn show_above<W: Write>(
-    out: &mut W,
-    text: &[u8],
-    data: &[u8],
-    table: &[usize],
-    count: usize,
-    offset: usize,
-    reading: Reading,
-    notes: &[i32],
-    diagnostics: &[i32],
-    options: Options,
-) -> io::Result<()> {
-    let refusal = reading.number;
-    let found = reading.diagnostics;
-    let outcome = Outcome {
-        diagnostics: found,
-        refusal,
-        place: reading.place,
-    };
-    if is_asked(options, LINE) | (0 < refusal) {
-        show_typed(
-            out,
-            text,
-            data,
-            offset,
-            table,
-            count,
-            notes,
-            diagnostics,
-            outcome,
-        )?;
-    }
-    if is_asked(options, MARKS) & is_read(refusal) {
-        let told = (refusal == 0) & ((found as usize) < CELLS);
-        show_marks(out, data, table, count, notes, diagnostics, found, told)?;
-    }
-    Ok(())
-}
-
-// The layers of a text with these data.
-fn show_part<W: Write>(
-    out: &mut W,
-    text: &[u8],
-    data: &[u8],
-    fields: Fields,
-    reading: Reading,
-    notes: &[i32],
-    bars: &[i32],
-    diagnostics: &[i32],
-    options: Options,
-) -> io::Result<()> {
-    let mut table = [0usize; TABLE];
-    let count = enter_marks(&mut table, data);
-    enter_stored(&mut table, count, notes, reading.notes);
-    show_above(
-        out,
+) -> io::Result<()>
+    requires { length text.now ≤ text_limit }
+{
+    let shown = Shown {
         text,
-        data,
-        &table,
-        count,
-        data_offset(fields),
-        reading,
+        data: given.data,
+        marks,
         notes,
-        diagnostics,
-        options,
-    )?;
-    if reading.number == 0 {
-        let line = keysig_line(text);
-        show_layers(
-            out, data, &table, count, fields, line, reading, notes, bars, options,
-        )?;
+        findings,
+        refusal,
+    };
+    if options.has(Layer::Line) || refusal.is_some() {
+        shown.show_typed(out)?;
+    }
+    if options.has(Layer::Marks) && is_looked_at(refusal) {
+        shown.show_marks(out)?;
+    }
+    if refusal.is_some() {
+        return Ok(());
+    }
+    if options.has(Layer::Notes) {
+        show_notes(out, alloc, notes, marks)?;
+    }
+    if options.has(Layer::Bars) {
+        show_bars(out, bars, notes, marks, given.unset)?;
+    }
+    if options.has(Layer::Why) {
+        let whys = Whys {
+            marks,
+            notes,
+            key: given.key,
+        };
+        whys.show(out, options.letter)?;
     }
     Ok(())
 }
 
-// Where the data stands; behind every text where there is none.
-fn data_offset(fields: Fields) -> usize {
-    if fields.present {
-        return fields.start;
+/// What came of a text, in the last row.
+fn show_outcome<W: Write>(out: &mut W, outcome: Result<Counts, Refused>) -> io::Result<()> {
+    writeln!(out)?;
+    match outcome {
+        Ok(counts) => {
+            let notes = Counted(counts.notes, "note");
+            let bars = Counted(counts.bars, "bar");
+            let diagnostics = Counted(counts.diagnostics, "diagnostic");
+            let more = if counts.diagnostics as usize == MAX_DIAGNOSTICS {
+                " or more"
+            } else {
+                ""
+            };
+            writeln!(out, "accepted: {notes}, {bars}, {diagnostics}{more}")
+        }
+        Err(refused) => {
+            let number = refused.number;
+            writeln!(out, "refused {number}")
+        }
     }
-    INPUT
 }
 
-// A text that is longer than a reading takes.
+/// A text that is longer than a reading takes.
 fn refuse_long<W: Write>(out: &mut W, text: &[u8]) -> io::Result<()> {
-    say_heading(out, b"1. The typed line")?;
-    show_refusal(out, text, 1, 0)?;
-    say_row(out, b"")?;
-    say_row(out, b"refused 1")
+    let refused = Refused {
+        number: 1,
+        place: None,
+    };
+    show_heading(out, "1. The typed line")?;
+    show_refusal(out, text, refused)?;
+    show_outcome(out, Err(refused))
 }
 
-// Reads a text and shows it.
-fn show_one<W: Write>(out: &mut W, text: &[u8], options: Options) -> io::Result<()> {
+/// Reads a text and shows it.
+fn show_one<W: Write>(out: &mut W, alloc: Global, text: &[u8], options: Options) -> io::Result<()> {
     if Pae::MAX_INPUT_BYTES < text.len() {
-        refuse_long(out, text)?;
-        return Ok(());
+        return refuse_long(out, text);
     }
     let mut notes = [0i32; NOTE_WORDS];
     let mut bars = [0i32; BAR_WORDS];
     let mut figure = [0i32; NOTE_WORDS];
-    let mut scratch = [0i32; SCRATCH];
-    clear(&mut scratch);
-    let fields = fields_of(text, &mut scratch);
-    clear(&mut scratch);
-    let reading = read(
+    let mut diagnostics = [0i32; DIAGNOSTIC_WORDS];
+    let given = given(text, &mut diagnostics);
+    let outcome = read_text(
         text,
         &mut notes,
         &mut bars,
         &mut figure,
-        &mut scratch,
-        CELLS,
+        &mut diagnostics,
     );
-    let start = fields.start;
-    let end = fields.end;
-    if start <= end {
-        if end <= text.len() {
-            show_part(
-                out,
-                text,
-                &text[start..end],
-                fields,
-                reading,
-                &notes,
-                &bars,
-                &scratch,
-                options,
-            )?;
-        }
-    }
-    show_outcome(out, reading)
+    let counts = outcome.unwrap_or(Counts {
+        notes: 0,
+        bars: 0,
+        diagnostics: 0,
+    });
+    let notes = Notes::new(&notes, counts.notes as usize);
+    let bars = Bars::new(&bars, counts.bars as usize);
+    let findings = findings_in(alloc, &diagnostics, counts.diagnostics as usize)?;
+    let data = given.data.unwrap_or(Part::new(b""));
+    let marks = Marks::new(alloc, data, notes)?;
+    show_layers(
+        out,
+        alloc,
+        text,
+        given,
+        &marks,
+        notes,
+        bars,
+        findings.as_slice(),
+        outcome.err(),
+        options,
+    )?;
+    show_outcome(out, outcome)
 }
 
 // ---- the texts of an input
 
-// A row between two texts.
+/// A row between two texts.
 fn show_rule<W: Write>(out: &mut W) -> io::Result<()> {
-    say_row(out, b"")?;
-    say_row(
-        out,
-        b"================================================================================",
-    )
+    writeln!(out, "\n{:=<80}", "")
 }
 
-// The texts of the input, a line that separates between two.
-fn show_all<W: Write>(out: &mut W, input: &[u8], options: Options) -> io::Result<()> {
-    let mut at = 0;
-    while at < input.len() {
-        let end = text_end(input, at);
-        let last = without_line_end(input, at, end);
-        show_one(out, &input[at..last], options)?;
-        let size = separator(&input[end..]);
-        if size == 0 {
-            return Ok(());
-        }
-        if input.len() - end <= size {
-            return Ok(());
-        }
-        at = end + size;
-        show_rule(out)?;
-    }
-    Ok(())
-}
-
-// A line of the input as a text, with its number; an empty line is none. Whether it is one.
-fn show_numbered<W: Write>(
+/// The texts of the input, a line that separates between two.
+fn show_all<W: Write>(
     out: &mut W,
-    line: &[u8],
-    number: usize,
+    alloc: Global,
+    input: &[u8],
     options: Options,
-) -> io::Result<bool> {
-    if line.len() == 0 {
-        return Ok(false);
+) -> io::Result<()> {
+    let mut start = 0usize;
+    let mut end = 0usize;
+    for line in input.split_inclusive(|byte| *byte == b'\n') {
+        let next = end.saturating_add(line.len());
+        if is_separator(line) {
+            let text = input.get(start..end).unwrap_or(b"");
+            show_one(out, alloc, without_line_end(text), options)?;
+            if next < input.len() {
+                show_rule(out)?;
+            }
+            start = next;
+        }
+        end = next;
     }
-    show_rule(out)?;
-    say(out, b"Line ")?;
-    say_number(out, number as u64)?;
-    end_row(out)?;
-    show_one(out, line, options)?;
-    Ok(true)
+    match input.get(start..) {
+        None | Some([]) => Ok(()),
+        Some(text) => show_one(out, alloc, without_line_end(text), options),
+    }
 }
 
-// Each line of the input as a text.
-fn show_lines<W: Write>(out: &mut W, input: &[u8], options: Options) -> io::Result<()> {
+/// Each line of the input as a text, with its number; an empty line is none.
+fn show_lines<W: Write>(
+    out: &mut W,
+    alloc: Global,
+    input: &[u8],
+    options: Options,
+) -> io::Result<()> {
     let mut any = false;
-    let mut number = 0;
-    let mut at = 0;
-    while at < input.len() {
-        let end = end_of_line(input, at);
-        let last = without_line_end(input, at, end);
-        number += 1;
-        any = any | show_numbered(out, &input[at..last], number, options)?;
-        at = end + 1;
+    for (before, line) in input.split_inclusive(|byte| *byte == b'\n').enumerate() {
+        let text = without_line_end(line);
+        if !text.is_empty() {
+            show_rule(out)?;
+            let number = before.saturating_add(1);
+            writeln!(out, "Line {number}")?;
+            show_one(out, alloc, text, options)?;
+            any = true;
+        }
     }
-    if !any {
-        say_row(out, b"No line of the input has a text.")?;
+    if any {
+        Ok(())
+    } else {
+        out.write_all(b"No line of the input has a text.\n")
     }
-    Ok(())
 }
 
-fn show_input<W: Write>(out: &mut W, input: &[u8], options: Options) -> io::Result<()> {
-    if input.len() == 0 {
-        show_one(out, input, options)?;
-        return Ok(());
+fn show_input<W: Write>(
+    out: &mut W,
+    alloc: Global,
+    input: &[u8],
+    options: Options,
+) -> io::Result<()> {
+    if input.is_empty() {
+        show_one(out, alloc, input, options)
+    } else if options.lines {
+        show_lines(out, alloc, input, options)
+    } else {
+        show_all(out, alloc, input, options)
     }
-    if options.lines {
-        show_lines(out, input, options)?;
-        return Ok(());
-    }
-    show_all(out, input, options)
 }
 
 // ---- the program
 
 fn show_help<W: Write>(out: &mut W) -> io::Result<()> {
-    say_row(
-        out,
-        b"Shows Plaine & Easie lines in four layers, and says why each letter, rest and copy is as it is.",
+    out.write_all(
+        b"Shows Plaine & Easie lines in four layers, and says why each letter, rest and copy is as it is.\n",
     )?;
-    say_row(out, b"")?;
-    say_row(
-        out,
-        b"  layers [OPTIONS]          texts from standard input; a line that is exactly --- stands between two",
+    out.write_all(b"\n")?;
+    out.write_all(
+        b"  layers [OPTIONS]          texts from standard input; a line that is exactly --- stands between two\n",
     )?;
-    say_row(out, b"  layers [OPTIONS] LINE     this text")?;
-    say_row(out, b"")?;
-    say_row(
-        out,
-        b"  --lines                   each line of the input is a text of its own",
+    out.write_all(b"  layers [OPTIONS] LINE     this text\n")?;
+    out.write_all(b"\n")?;
+    out.write_all(b"  --lines                   each line of the input is a text of its own\n")?;
+    out.write_all(
+        b"  --layer NAME              one layer alone: line, marks, notes, bars or why\n",
     )?;
-    say_row(
-        out,
-        b"  --layer NAME              one layer alone: line, marks, notes, bars or why",
+    out.write_all(
+        b"  --letter N                only why the letter, rest or copy at place N is as it is; places count characters\n",
     )?;
-    say_row(
-        out,
-        b"  --letter N                only why the letter, rest or copy at place N is as it is; places count characters",
-    )?;
-    say_row(out, b"  --help                    this")?;
-    say_row(
-        out,
-        b"  --                        what follows is a text, even if it looks like an option",
+    out.write_all(b"  --help                    this\n")?;
+    out.write_all(
+        b"  --                        what follows is a text, even if it looks like an option\n",
     )
 }
 
@@ -362,44 +384,45 @@ fn refuse_argument<W: Write>(
     input: &mut [u8],
     i: usize,
 ) -> io::Result<()> {
-    say(out, b"layers: ")?;
+    out.write_all(b"layers: ")?;
     match argument(rt, i, input) {
-        None => say_row(
-            out,
-            b"a value is missing after the last option (layers --help)",
-        ),
-        Some(0) => say_row(out, b"not understood: an empty argument (layers --help)"),
+        None => out.write_all(b"a value is missing after the last option (layers --help)\n"),
+        Some(0) => out.write_all(b"not understood: an empty argument (layers --help)\n"),
         Some(size) => {
-            say(out, b"not understood: ")?;
-            say_text(out, &input[..size])?;
-            say_row(out, b" (a text with blanks needs quotes; layers --help)")
+            out.write_all(b"not understood: ")?;
+            let text = Text(&input[..size]);
+            write!(out, "{text}")?;
+            out.write_all(b" (a text with blanks needs quotes; layers --help)\n")
         }
     }
 }
 
-// The text that is argument i, or the input.
-fn input_of<R: Env + Input>(rt: &R, input: &mut [u8], i: usize) -> io::Result<usize>
-    ensures { ReadsAtMost result input.new }
-{
-    if i == 0 {
-        return read_full(&mut rt.reader(), input);
-    }
-    Ok(argument(rt, i, input).unwrap_or(0))
+// The text that is an argument, or the input.
+fn input_of<R: Env + Input>(rt: &R, alloc: Global, text: Option<usize>) -> io::Result<Vec<u8>> {
+    let Some(number) = text else {
+        let mut input = Vec::new(alloc);
+        rt.reader().take(INPUT as u64).read_to_end(&mut input)?;
+        return Ok(input);
+    };
+    let mut buffer = [0u8; INPUT];
+    let size = argument(rt, number, &mut buffer).unwrap_or(0);
+    Ok(Vec::from_slice(alloc, &buffer[..size])?)
 }
 
 fn main(rt: HostRuntime) -> io::Result<()> {
     let mut out = io::writer(&rt);
+    let alloc = rt.alloc();
     let options = options_given(&rt);
-    let mut input = [0u8; INPUT];
     if options.help {
         return show_help(&mut out);
     }
-    if options.bad != 0 {
-        return refuse_argument(&rt, &mut out, &mut input, options.bad);
+    if let Some(number) = options.bad {
+        let mut buffer = [0u8; INPUT];
+        return refuse_argument(&rt, &mut out, &mut buffer, number);
     }
-    let size = input_of(&rt, &mut input, options.text)?;
-    if size == INPUT {
-        return say_row(&mut out, b"The input is too long: 131,072 bytes or more.");
+    let input = input_of(&rt, alloc, options.text)?;
+    if input.len() == INPUT {
+        return out.write_all(b"The input is too long: 131,072 bytes or more.\n");
     }
-    show_input(&mut out, &input[..size], options)
+    show_input(&mut out, alloc, input.as_slice(), options)
 }

@@ -2,15 +2,17 @@
 // Its standard input is the thirteen lines of crates/rules/proofs/Lines.antt, in fourteen texts.
 #![tactic(auto)]
 
+ghost use Rattle.std.specs.Prelude.{OnOk};
+ghost use Rattle.std.specs.Io.KnownBytes.{Appends};
+ghost use Rattle.lines.specs.Rows.{words_row, record_row};
+
 use ending::Reading;
 use limits::Pae;
 use reading::read::read;
 use records::cells::{BAR, DIAGNOSTIC, FIRST_PITCH, NOTE, PITCH, clear, natural};
 use records::note::PITCH_COUNT;
-use show::{magnitude, read_full, word_at};
 use std::io;
-use std::io::Write;
-use text::line_end;
+use std::io::{Read, Write};
 
 // Lent for every line: 16 notes, 16 bars, 16 notes of a figure, 1,024 diagnostics.
 const NOTES: usize = 16 * NOTE;
@@ -28,102 +30,34 @@ const INPUT: usize = 4096;
 
 // ---- rows
 
-fn print_word<W: Write>(out: &mut W, word: i32) -> io::Result<()> {
-    if word < 0 {
-        out.write_all(b" -")?;
-    } else {
-        out.write_all(b" ")?;
-    }
-    write!(out, "{}", magnitude(word) as u64)
-}
-
-// The words from `start` up to `end`.
-fn print_words<W: Write>(out: &mut W, words: &[i32], start: usize, end: usize) -> io::Result<()> {
-    let mut i = start;
-    while i < end {
-        print_word(out, word_at(words, i))?;
-        i += 1;
+// Words, a space before each.
+fn print_words<W: Write>(out: &mut W, words: &[i32]) -> io::Result<()>
+    ensures { OnOk result (Appends (W.contents out.old) (W.contents out.new) (words_row words.now)) }
+{
+    for word in words {
+        write!(out, " {word}")?;
     }
     Ok(())
 }
 
-fn print_pitch<W: Write>(out: &mut W, notes: &[i32], note: u32, pitch: u32) -> io::Result<()> {
-    let start = note as usize * NOTE + FIRST_PITCH + pitch as usize * PITCH;
-    out.write_all(b", pitch")?;
-    print_words(out, notes, start, start + PITCH)
-}
-
-fn print_pitches<W: Write>(out: &mut W, notes: &[i32], note: u32, count: u32) -> io::Result<()> {
-    let mut i: u32 = 0;
-    while i < count {
-        print_pitch(out, notes, note, i)?;
-        i += 1;
-    }
-    Ok(())
-}
-
-fn print_note<W: Write>(out: &mut W, notes: &[i32], note: u32) -> io::Result<()> {
-    let start = note as usize * NOTE;
+fn print_note<W: Write>(out: &mut W, note: &[i32; NOTE]) -> io::Result<()> {
     out.write_all(b"note")?;
-    print_words(out, notes, start, start + FIRST_PITCH)?;
-    print_pitches(
-        out,
-        notes,
-        note,
-        natural(word_at(notes, start + PITCH_COUNT)),
-    )?;
+    print_words(out, &note[..FIRST_PITCH])?;
+    let (pitches, _) = note[FIRST_PITCH..].as_chunks::<PITCH>();
+    for pitch in pitches.iter().take(natural(note[PITCH_COUNT]) as usize) {
+        out.write_all(b", pitch")?;
+        print_words(out, pitch)?;
+    }
     out.write_all(b"\n")
 }
 
-fn print_notes<W: Write>(out: &mut W, notes: &[i32], count: u32) -> io::Result<()> {
-    let mut i: u32 = 0;
-    while i < count {
-        print_note(out, notes, i)?;
-        i += 1;
-    }
-    Ok(())
-}
-
-fn print_bar<W: Write>(out: &mut W, bars: &[i32], bar: u32) -> io::Result<()> {
-    let start = bar as usize * BAR;
-    out.write_all(b"bar")?;
-    print_words(out, bars, start, start + BAR)?;
-    out.write_all(b"\n")
-}
-
-fn print_bars<W: Write>(out: &mut W, bars: &[i32], count: u32) -> io::Result<()> {
-    let mut i: u32 = 0;
-    while i < count {
-        print_bar(out, bars, i)?;
-        i += 1;
-    }
-    Ok(())
-}
-
-fn print_diagnostic<W: Write>(out: &mut W, found: &[i32], number: u32) -> io::Result<()> {
-    let start = number as usize * DIAGNOSTIC;
-    out.write_all(b"diagnostic")?;
-    print_words(out, found, start, start + DIAGNOSTIC)?;
-    out.write_all(b"\n")
-}
-
-fn print_diagnostics<W: Write>(out: &mut W, found: &[i32], count: u32) -> io::Result<()> {
-    let mut i: u32 = 0;
-    while i < count {
-        print_diagnostic(out, found, i)?;
-        i += 1;
-    }
-    Ok(())
-}
-
-fn print_refusal<W: Write>(out: &mut W, number: u32, place: u32) -> io::Result<()> {
-    if number == 0 {
-        return Ok(());
-    }
-    out.write_all(b"refused ")?;
-    write!(out, "{}", number as u64)?;
-    out.write_all(b" at ")?;
-    write!(out, "{}", place as u64)?;
+// A record behind its name.
+fn print_record<W: Write>(out: &mut W, name: &[u8], words: &[i32]) -> io::Result<()>
+    ensures { OnOk result (Appends (W.contents out.old) (W.contents out.new)
+        (record_row name.now words.now)) }
+{
+    out.write_all(name)?;
+    print_words(out, words)?;
     out.write_all(b"\n")
 }
 
@@ -134,10 +68,24 @@ fn print_reading<W: Write>(
     bars: &[i32],
     found: &[i32],
 ) -> io::Result<()> {
-    print_refusal(out, r.number, r.place)?;
-    print_notes(out, notes, r.notes)?;
-    print_bars(out, bars, r.bars)?;
-    print_diagnostics(out, found, r.diagnostics)
+    if r.number != 0 {
+        let number = r.number;
+        let place = r.place;
+        writeln!(out, "refused {number} at {place}")?;
+    }
+    let (notes, _) = notes.as_chunks::<NOTE>();
+    for note in notes.iter().take(r.notes as usize) {
+        print_note(out, note)?;
+    }
+    let (bars, _) = bars.as_chunks::<BAR>();
+    for bar in bars.iter().take(r.bars as usize) {
+        print_record(out, b"bar", bar)?;
+    }
+    let (diagnostics, _) = found.as_chunks::<DIAGNOSTIC>();
+    for diagnostic in diagnostics.iter().take(r.diagnostics as usize) {
+        print_record(out, b"diagnostic", diagnostic)?;
+    }
+    Ok(())
 }
 
 // ---- lines
@@ -165,18 +113,16 @@ fn read_lines<W: Write>(
     figure: &mut [i32; FIGURE],
     found: &mut [i32; SCRATCH],
 ) -> io::Result<()> {
-    let mut at = 0;
-    while at < input.len() {
-        let end = line_end(input, at);
-        read_line(out, &input[at..end], notes, bars, figure, found)?;
-        at = end + 1;
+    for line in input.split_inclusive(|byte| *byte == b'\n') {
+        let text = line.strip_suffix(b"\n").unwrap_or(line);
+        read_line(out, text, notes, bars, figure, found)?;
     }
     Ok(())
 }
 
 fn main(rt: HostRuntime) -> io::Result<()> {
-    let mut input = [0u8; INPUT];
-    let size = read_full(&mut rt.reader(), &mut input)?;
+    let mut input = Vec::new(rt.alloc());
+    rt.reader().take(INPUT as u64).read_to_end(&mut input)?;
     let mut out = io::writer(&rt);
     let mut notes = [0i32; NOTES];
     let mut bars = [0i32; BARS];
@@ -184,7 +130,7 @@ fn main(rt: HostRuntime) -> io::Result<()> {
     let mut found = [0i32; SCRATCH];
     read_lines(
         &mut out,
-        &input[..size],
+        input.as_slice(),
         &mut notes,
         &mut bars,
         &mut figure,

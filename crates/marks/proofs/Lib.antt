@@ -1,3 +1,2 @@
-pub mod TableLaws
-pub mod LookBackLaws
-pub mod MarkLaws
+pub mod MarksLaws
+pub mod RecordLaws

@@ -1,5 +1,8 @@
-pub mod Cells
+pub mod Bars
+pub mod Fates
+pub mod Findings
 pub mod Kinds
-pub mod Table
-pub mod Marks
 pub mod LookBack
+pub mod Marks
+pub mod Records
+pub mod Values

@@ -1,55 +1,63 @@
--- What is entered into the table of marks, and what token a mark is. Assumes nothing.
-use Rattle.std.specs.Prelude.{ℕ, zero, suc, ◌+◌, ◌<◌, ◌≤◌, ◌≡◌, cond, List, [], ◌∷◌, ℤ, eqb, length, get_or, take, if◌then◌else◌}
-use Rattle.std.proofs.Math.Seq.{slice}
-use Rattle.rules.specs.Characters.{characters_in}
-use Rattle.rules.specs.Tokens.{Item, items_of}
-use Rattle.decode.specs.Decode.{Decoded}
-use Rattle.decode.specs.declared.Token.{Token}
-use Rattle.decode.specs.declared.Token.TheVariants.{Unknown}
-use Rattle.marks.specs.Cells.{record_place, record_kind}
-use Rattle.marks.specs.Kinds.{kind_of, takes_length}
-use Rattle.marks.specs.Table.{end_word, characters_word, kind_word, stored_word, taken_word, with_word, place_of, kind_at}
+-- What the marks are: the tokens of the data, and the records that they stored. Assumes nothing.
+use Rattle.std.specs.Prelude.{ℕ, ◌≡◌, ◌+◌, ◌-◌, Bool, false, ◌&&◌, ◌||◌, ◌==◌, List, [], ◌∷◌, Option, None, Some, ℤ, pos, ⊤, eqb, ltb, length, drop, map, flat_map, reverse, slice_index_or, if◌then◌else◌}
+use Rattle.std.specs.List.{prefix_len}
+use Rattle.rules.specs.Tokens.{Item}
+use Rattle.rules.specs.Tokens as t
+use Rattle.rules.specs.Stored.{natural}
+use Rattle.tokens.specs.Kinds.{token_in}
+use Rattle.marks.specs.declared.lookback.Mark.{Mark}
+use Rattle.marks.specs.Kinds.{is_letter, is_rest}
 
--- ---- the marks of the data
+-- ---- tokens
 
--- the tokens of the data, the latest first; offsets count from the data's start
-abbrev pub tokens_of : List ℕ → List Item
-tokens_of text = items_of (record { start = 0; bytes = text })
+-- the token with its place that a mark is
+abbrev pub item_in : Mark → Item
+item_in m = record { place = m.place.0; offset = m.start.0; size = length m.text.now; token = token_in m.token }
 
--- mark k with the offset behind it, the characters before that offset, and its kind
-unfoldable pub with_mark : List ℕ → ℕ → ℕ → ℕ → ℕ → List ℕ
-with_mark table k end characters kind = with_word (with_word (with_word table k end_word end) k characters_word characters) k kind_word kind
+-- the tokens that marks are, the latest first
+abbrev pub items_in : List Mark → List Item
+items_in marks = map item_in (reverse marks)
 
--- the offset behind a token
-abbrev pub item_end : Item → ℕ
-item_end x = x.offset + x.size
+-- the bytes of marks, one after the other
+abbrev pub bytes_in : List Mark → List ℕ
+bytes_in marks = flat_map (λ m. m.text.now) marks
 
--- the table with these tokens of a text entered, the latest first
-unfoldable pub entered : List ℕ → List ℕ → List Item → List ℕ
-entered text table [] = table
-entered text table (x ∷ before) =
-    with_mark (entered text table before) (length before + 1) (item_end x) (characters_in (take (item_end x) text)) (kind_of x.token)
+-- ---- records
 
--- ---- the records that marks stored
+-- the place of the token that stored a note, and the note's kind
+abbrev pub record_place : List ℤ → ℕ
+record_place note = natural (slice_index_or note 0 (pos 0))
 
--- the table where mark k stored record `number`, which has this kind
-unfoldable pub with_stored : List ℕ → ℕ → ℕ → ℕ → List ℕ
-with_stored table k number kind_of_record =
-    with_word (with_word table k stored_word (number + 1)) k taken_word (cond (takes_length (kind_at table k) kind_of_record) 1 0)
+abbrev pub record_kind : List ℤ → ℕ
+record_kind note = natural (slice_index_or note 1 (pos 0))
 
--- the records from `number` on, so many, entered each at the mark that has its place, of the marks behind k, so many; both stand in order
-unfoldable pub stored_from : List ℤ → ℕ → ℕ → ℕ → ℕ → List ℕ → List ℕ
-stored_from notes k number zero records table = table
-stored_from notes k number (suc marks) zero table = table
-stored_from notes k number (suc marks) (suc records) table =
-    if eqb (record_place notes number) (place_of table (k + 1))
-    then stored_from notes k (number + 1) (suc marks) records (with_stored table (k + 1) number (record_kind notes number))
-    else stored_from notes (k + 1) number marks (suc records) table
+-- the token at a place stored a note
+abbrev pub has_place : ℕ → List ℤ → Bool
+has_place place note = record_place note == place
 
--- ---- a mark's token
+-- the end of the records from one number on that have this place
+abbrev pub end_at : List (List ℤ) → ℕ → ℕ → ℕ
+end_at notes first place = first + prefix_len (has_place place) (drop first notes)
 
--- r is the token of the bytes from `start` to `end`, unknown where the text has no such part
-pub record TokenBetween (text : List ℕ) (start end : ℕ) (r : Token) : Type 0 where
-  pub inside : start < end → end ≤ length text → Decoded (get_or text start 0) (slice (start + 1) end text) r
-  pub empty : end ≤ start → r ≡ Unknown
-  pub beyond : length text < end → r ≡ Unknown
+-- the number of the last of these records, if there are any
+abbrev pub last_of : ℕ → ℕ → Option ℕ
+last_of first end = if ltb first end then Some (end - 1) else None
+
+-- a token that stored this record took a length of the pattern: a rest, or a letter that opened a note and no grace
+abbrev pub takes_length : t.Token → List ℤ → Bool
+takes_length token note = is_rest token || (is_letter token && eqb (record_kind note) 0)
+
+abbrev pub took_length : List (List ℤ) → t.Token → Option ℕ → Bool
+took_length notes token None = false
+took_length notes token (Some number) = takes_length token (slice_index_or notes number [])
+
+-- a mark with this number, which stored the records from `first` on that have its place
+pub record IsMark (notes : List (List ℤ)) (number first : ℕ) (m : Mark) : Type 0 where
+  pub numbered : m.number ≡ number
+  pub stored : m.stored ≡ last_of first (end_at notes first m.place.0)
+  pub took : m.took_length ≡ took_length notes (token_in m.token) m.stored
+
+-- marks with these numbers and the records that they stored; both stand in order
+abbrev pub AreMarks : List (List ℤ) → ℕ → ℕ → List Mark → Type 0
+AreMarks notes number first [] = ⊤
+AreMarks notes number first (m ∷ behind) = IsMark notes number first m × AreMarks notes (number + 1) (end_at notes first m.place.0) behind

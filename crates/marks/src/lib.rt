@@ -1,7 +1,9 @@
-// The marks of the data, its tokens, as a table, and the look-back over them, for the program `layers`.
+// The marks of the data, its tokens, with the records that they stored; the look-back over them; records and diagnostics by their fields; and
+// what marks are in words. For the program `layers`.
 #![tactic(auto)]
 
-pub mod cells; // cells.rt: words of the records
-pub mod lookback; // lookback.rt: the look-back
-pub mod say; // say.rt: marks in words
-pub mod table; // table.rt: the table of marks
+pub mod findings; // findings.rt: diagnostics by their fields
+pub mod lookback; // lookback.rt: the marks and the look-back
+pub mod records; // records.rt: records by their fields
+pub mod signs; // signs.rt: marks in words that the records have no part in
+pub mod waiting; // waiting.rt: what became of marks that wait

@@ -1,160 +1,410 @@
-// The look-back: over the marks before a letter, the latest first.
-ghost use Rattle.std.specs.Prelude.{◌≡◌, ◌+◌, ◌-◌, ◌≤◌, cond, eqb};
-ghost use Rattle.marks.specs.Kinds.{letter_kind, is_letter_kind, is_barline_kind};
-ghost use Rattle.marks.specs.LookBack.{is_sought, is_found, latest_of, count_of, first_behind};
+// The marks of the data, its tokens, and the look-back over them: over the marks before a letter, the latest first.
+ghost use Rattle.std.specs.Prelude.{◌≡◌, ◌+◌, ◌<◌, ◌≤◌, [], false, length, take, drop, IfOk, IfSome, is_some, ◌&&◌};
+ghost use Rattle.rules.specs.Tokens.{items_of};
+ghost use Rattle.scan.specs.Parts.{part_of};
+ghost use Rattle.tokens.specs.Kinds.{token_in};
+ghost use Rattle.marks.specs.Kinds.{is_letter, is_octave, is_sign, is_chord, is_whole_bars, is_barline, is_pattern, is_clef, is_key, is_grace, is_grace_group, is_rest, is_figure_mark, opens_beam, closes_beam, opens_group, closes_group};
+ghost use Rattle.marks.specs.Values.{octave_of, accidental_of, step_of, pattern_of, clef_of, key_of, grace_of, grace_group_of, marking_of};
+ghost use Rattle.marks.specs.Marks.{items_in, bytes_in, last_of, AreMarks, took_length};
+ghost use Rattle.marks.specs.LookBack.{Answers, latest_of, count_of, first_of, stands_at};
 
-use super::table::{
-    BARLINE, BEAM_CLOSE, BEAM_OPEN, CHORD, CLEF, FIGURE_MARK, GRACE, GRACE_GROUP, GROUP_CLOSE,
-    GROUP_OPEN, KEY, OCTAVE, PATTERN, SIGN, WHOLE_BARS, kind_at, stored_at, took_length,
-};
+use crate::records::Notes;
+use rows::terms::Term;
+use rows::text::Excerpt;
+use scan::lines::{Offset, Part};
+use std::alloc::{AllocError, Global};
+use std::fmt;
+use stores::note::KIND;
+use tokens::attributes::{ClefValue, Key};
+use tokens::cut::{Place, Span, Tokens};
+use tokens::kinds::{Figure, Grace, Marking, Token};
+use tokens::rhythm::{Accidental, Octave, Pattern, Step};
 
-// What is sought, or where the search stops.
+/// A mark: a token of the data, with its number from 0, its place, its offset in the text and its bytes, and with the number of the last
+/// record that it stored, where it stored one.
 #[derive(Clone, Copy)]
-pub enum Sought {
-    Nothing,
-    // an octave in range
-    Octave,
-    // `x`, `b`, `n` and longer runs
-    Sign,
-    Letter,
-    // a letter of this step
-    Step(u8),
-    Chord,
-    // a barline, or an `=` of 2 or more bars
-    Barline,
-    Pattern,
-    Clef,
-    Key,
-    // `g` or `q`
-    Grace,
-    // `qq` or `r`
-    GraceGroup,
-    // a letter that opened a record
-    Opening,
-    // a mark that stored a record
-    Storing,
-    // a mark that took a length of the pattern
-    Taking,
-    BeamOpen,
-    BeamClose,
-    GroupOpen,
-    GroupClose,
-    // `!`
-    FigureMark,
+pub struct Mark<'d> {
+    pub number: usize,
+    pub place: Place,
+    pub start: Offset,
+    pub text: &'d [u8],
+    pub token: Token<'d>,
+    pub stored: Option<usize>,
+    /// Whether it took a length of the pattern: a rest, or a letter that opened a note and no grace.
+    pub took_length: bool,
 }
 
-fn is_letter(kind: usize) -> bool
-    ensures { result ≡ is_letter_kind kind }
-{
-    (1 <= kind) & (kind <= 7)
-}
-
-fn is_barline(kind: usize) -> bool
-    ensures { result ≡ is_barline_kind kind }
-{
-    (kind == BARLINE) | (kind == WHOLE_BARS)
-}
-
-fn has_step(kind: usize, step: u8) -> bool
-    ensures { result ≡ eqb kind (letter_kind step) }
-{
-    kind == step as usize + 1
-}
-
-// Whether a mark of this kind is what is sought; it may have stored a record and taken a length.
-fn is_sought(sought: Sought, kind: usize, storing: bool, taking: bool) -> bool
-    ensures { result ≡ is_sought sought kind storing taking }
-{
-    match sought {
-        Sought::Nothing => false,
-        Sought::Octave => kind == OCTAVE,
-        Sought::Sign => kind == SIGN,
-        Sought::Letter => is_letter(kind),
-        Sought::Step(step) => has_step(kind, step),
-        Sought::Chord => kind == CHORD,
-        Sought::Barline => is_barline(kind),
-        Sought::Pattern => kind == PATTERN,
-        Sought::Clef => kind == CLEF,
-        Sought::Key => kind == KEY,
-        Sought::Grace => kind == GRACE,
-        Sought::GraceGroup => kind == GRACE_GROUP,
-        Sought::Opening => storing & is_letter(kind),
-        Sought::Storing => storing,
-        Sought::Taking => taking,
-        Sought::BeamOpen => kind == BEAM_OPEN,
-        Sought::BeamClose => kind == BEAM_CLOSE,
-        Sought::GroupOpen => kind == GROUP_OPEN,
-        Sought::GroupClose => kind == GROUP_CLOSE,
-        Sought::FigureMark => kind == FIGURE_MARK,
-    }
-}
-
-// Whether mark k is what is sought.
-fn is_found(table: &[usize], k: usize, sought: Sought) -> bool
-    ensures { result ≡ is_found table.now sought k }
-{
-    is_sought(
-        sought,
-        kind_at(table, k),
-        0 < stored_at(table, k),
-        took_length(table, k),
-    )
-}
-
-// The latest mark up to `from` that is sought, since the last one that stops the search. A mark may be both: it is found.
-pub fn latest(table: &[usize], from: usize, sought: Sought, stop: Sought) -> usize
-    ensures { (result ≡ latest_of table.now sought stop from) × (result ≤ from) }
-{
-    let mut k = from;
-    while 0 < k {
-        let here = is_found(table, k, sought);
-        let stops = is_found(table, k, stop);
-        if here {
-            return k;
-        }
-        if stops {
-            return 0;
-        }
-        k -= 1;
-    }
-    0
-}
-
-fn one_if(found: bool) -> usize
-    ensures { (result ≡ cond found 1 0) × (result ≤ 1) }
-{
-    if found {
-        return 1;
-    }
-    0
-}
-
-// How many marks up to `from` are sought, since the last one that stops the search.
-pub fn count_back(table: &[usize], from: usize, sought: Sought, stop: Sought) -> usize
-    ensures { result ≡ count_of table.now sought stop from }
-{
-    let mut count = 0;
-    let mut k = from;
-    while 0 < k {
-        if is_found(table, k, stop) {
-            return count;
-        }
-        count += one_if(is_found(table, k, sought));
-        k -= 1;
-    }
-    count
-}
-
-// The first mark behind `from`, up to `to`, that is sought.
-pub fn first_behind(table: &[usize], from: usize, to: usize, sought: Sought) -> usize
-    ensures { result ≡ first_behind table.now sought from (to - from) }
-{
-    let mut k = from;
-    while k < to {
-        k += 1;
-        if is_found(table, k, sought) {
-            return k;
+impl<'d> Mark<'d> {
+    /// The octave that it sets; one out of range is none.
+    pub fn octave(&self) -> Option<Octave>
+        ensures { result ≡ octave_of self.now.token }
+    {
+        match self.token {
+            Token::Octave(octave) => octave,
+            _ => None,
         }
     }
-    0
+
+    pub fn accidental(&self) -> Option<Accidental>
+        ensures { result ≡ accidental_of self.now.token }
+    {
+        match self.token {
+            Token::Accidental(accidental) => Some(accidental),
+            _ => None,
+        }
+    }
+
+    /// The step of a letter.
+    pub fn step(&self) -> Option<Step>
+        ensures { result ≡ step_of self.now.token }
+    {
+        match self.token {
+            Token::Letter(step) => Some(step),
+            _ => None,
+        }
+    }
+
+    pub fn pattern(&self) -> Option<Pattern<'d>>
+        ensures { result ≡ pattern_of self.now.token }
+    {
+        match self.token {
+            Token::Duration(pattern) => Some(pattern),
+            _ => None,
+        }
+    }
+
+    pub fn clef(&self) -> Option<ClefValue>
+        ensures { result ≡ clef_of self.now.token }
+    {
+        match self.token {
+            Token::Clef(clef) => Some(clef),
+            _ => None,
+        }
+    }
+
+    pub fn key(&self) -> Option<Key>
+        ensures { result ≡ key_of self.now.token }
+    {
+        match self.token {
+            Token::Key(key) => Some(key),
+            _ => None,
+        }
+    }
+
+    /// `g` or `q`.
+    pub fn grace(&self) -> Option<Grace>
+        ensures { result ≡ grace_of self.now.token }
+    {
+        match self.token {
+            Token::Grace(grace) => Some(grace),
+            _ => None,
+        }
+    }
+
+    /// Whether it begins a grace group (`qq`) or ends one (`r`).
+    pub fn grace_group(&self) -> Option<bool>
+        ensures { result ≡ grace_group_of self.now.token }
+    {
+        match self.token {
+            Token::GraceGroup(begins) => Some(begins),
+            _ => None,
+        }
+    }
+
+    pub fn marking(&self) -> Option<Marking>
+        ensures { result ≡ marking_of self.now.token }
+    {
+        match self.token {
+            Token::Marking(marking) => Some(marking),
+            _ => None,
+        }
+    }
+
+    pub fn is_letter(&self) -> bool
+        ensures { result ≡ is_letter (token_in self.now.token) }
+    {
+        matches!(self.token, Token::Letter(_))
+    }
+
+    pub fn is_octave(&self) -> bool
+        ensures { result ≡ is_octave (token_in self.now.token) }
+    {
+        matches!(self.token, Token::Octave(Some(_)))
+    }
+
+    /// `x`, `b`, `n` and longer runs.
+    pub fn is_sign(&self) -> bool
+        ensures { result ≡ is_sign (token_in self.now.token) }
+    {
+        matches!(self.token, Token::Accidental(_))
+    }
+
+    pub fn is_chord(&self) -> bool
+        ensures { result ≡ is_chord (token_in self.now.token) }
+    {
+        matches!(self.token, Token::Chord)
+    }
+
+    /// An `=` of two or more bars: a barline stands in it.
+    pub fn is_whole_bars(&self) -> bool
+        ensures { result ≡ is_whole_bars (token_in self.now.token) }
+    {
+        matches!(self.token, Token::WholeBars(Some(2..)))
+    }
+
+    /// A barline, or an `=` in which one stands.
+    pub fn is_barline(&self) -> bool
+        ensures { result ≡ is_barline (token_in self.now.token) }
+    {
+        matches!(self.token, Token::Barline(_)) || self.is_whole_bars()
+    }
+
+    pub fn is_pattern(&self) -> bool
+        ensures { result ≡ is_pattern (token_in self.now.token) }
+    {
+        matches!(self.token, Token::Duration(_))
+    }
+
+    pub fn is_clef(&self) -> bool
+        ensures { result ≡ is_clef (token_in self.now.token) }
+    {
+        matches!(self.token, Token::Clef(_))
+    }
+
+    pub fn is_key(&self) -> bool
+        ensures { result ≡ is_key (token_in self.now.token) }
+    {
+        matches!(self.token, Token::Key(_))
+    }
+
+    pub fn is_grace(&self) -> bool
+        ensures { result ≡ is_grace (token_in self.now.token) }
+    {
+        matches!(self.token, Token::Grace(_))
+    }
+
+    pub fn is_grace_group(&self) -> bool
+        ensures { result ≡ is_grace_group (token_in self.now.token) }
+    {
+        matches!(self.token, Token::GraceGroup(_))
+    }
+
+    pub fn is_rest(&self) -> bool
+        ensures { result ≡ is_rest (token_in self.now.token) }
+    {
+        matches!(self.token, Token::Rest)
+    }
+
+    /// `!`.
+    pub fn is_figure_mark(&self) -> bool
+        ensures { result ≡ is_figure_mark (token_in self.now.token) }
+    {
+        matches!(self.token, Token::Figure(Figure::Mark))
+    }
+
+    pub fn opens_beam(&self) -> bool
+        ensures { result ≡ opens_beam (token_in self.now.token) }
+    {
+        matches!(self.token, Token::Marking(Marking::BeamOpen))
+    }
+
+    pub fn closes_beam(&self) -> bool
+        ensures { result ≡ closes_beam (token_in self.now.token) }
+    {
+        matches!(self.token, Token::Marking(Marking::BeamClose))
+    }
+
+    pub fn opens_group(&self) -> bool
+        ensures { result ≡ opens_group (token_in self.now.token) }
+    {
+        matches!(self.token, Token::Marking(Marking::GroupOpen))
+    }
+
+    pub fn closes_group(&self) -> bool
+        ensures { result ≡ closes_group (token_in self.now.token) }
+    {
+        matches!(self.token, Token::Marking(Marking::GroupClose))
+    }
+
+    /// Whether it stored a record.
+    pub fn stores(&self) -> bool
+        ensures { result ≡ is_some self.now.stored }
+    {
+        self.stored.is_some()
+    }
+
+    /// Whether it is a letter that opened a record.
+    pub fn opens_note(&self) -> bool
+        ensures { result ≡ (is_letter (token_in self.now.token) && is_some self.now.stored) }
+    {
+        self.is_letter() && self.stores()
+    }
+}
+
+/// A mark's text and its place.
+impl<'d> fmt::Display for Mark<'d> {
+    fn fmt<W: fmt::Write>(&self, f: &mut fmt::Formatter<W>) -> fmt::Result {
+        let text = Excerpt(self.text);
+        let place = Term(self.place);
+        write!(f, "{text} at {place}")
+    }
+}
+
+/// The number of the last of the records from one number on and below another, if there are any.
+fn last_of(first: usize, end: usize) -> Option<usize>
+    ensures { result ≡ last_of first end }
+{
+    if first < end { Some(end - 1) } else { None }
+}
+
+/// Whether a token took a length of the pattern: a rest, or a letter that opened a note and no grace; it stored this record.
+fn took_length(token: Token<'_>, notes: Notes<'_>, stored: Option<usize>) -> bool
+    requires { IfSome stored (λ number. number < length notes.0.now) }
+    ensures { result ≡ took_length notes.entry.0.now (token_in token.entry) stored }
+{
+    let Some(number) = stored else {
+        return false;
+    };
+    match token {
+        Token::Rest => true,
+        Token::Letter(_) => notes.0[number][KIND] <= 0,
+        _ => false,
+    }
+}
+
+/// The first mark that is sought.
+fn first<'d, S: Fn(&Mark<'d>) -> bool>(marks: &[Mark<'d>], sought: S) -> Option<Mark<'d>>
+    requires { S.IsAlwaysCallable sought }
+    ensures { (p : _) → Answers S.Fn sought p → result ≡ first_of p marks.now }
+{
+    for mark in marks {
+        if sought(mark) {
+            return Some(*mark);
+        }
+    }
+    None
+}
+
+/// The marks of the data, in order.
+#[derive(Drop)]
+pub struct Marks<'d> {
+    list: Vec<Mark<'d>>,
+}
+
+impl<'d> Marks<'d> {
+    /// The tokens of the data, each with the last of the records that has its place; both stand in order.
+    pub fn new(alloc: Global, data: Part<'d>, notes: Notes<'_>) -> Result<Marks<'d>, AllocError>
+        ensures tokens { IfOk result (λ marks. items_in marks.list.items ≡ items_of (part_of «data».entry)) }
+        ensures bytes { IfOk result (λ marks. bytes_in marks.list.items ≡ «data».entry.bytes.now) }
+        ensures records { IfOk result (λ marks. AreMarks notes.entry.0.now 0 0 marks.list.items) }
+    {
+        let mut list = Vec::new(alloc);
+        let mut rest = data.bytes;
+        let mut next = 0;
+        for span in Tokens::new(data) {
+            let number = list.len();
+            let (text, behind) = rest.split_at(1 + span.value.len());
+            let first = next;
+            next = notes.end_at(first, span.place);
+            let stored = last_of(first, next);
+            let token = span.decode();
+            let mark = Mark {
+                number,
+                place: span.place,
+                start: span.offset,
+                text,
+                token,
+                stored,
+                took_length: took_length(token, notes, stored),
+            };
+            list.push(mark)?;
+            rest = behind;
+        }
+        Ok(Marks { list })
+    }
+
+    /// All marks, in order.
+    pub fn as_slice(&self) -> &[Mark<'d>]
+        ensures { result.now ≡ self.now.list.items }
+    {
+        self.list.as_slice()
+    }
+
+    /// The first mark that has this place or a later one.
+    pub fn at(&self, place: Place) -> Option<Mark<'d>>
+        ensures { result ≡ first_of (stands_at place.0) self.now.list.items }
+    {
+        first(self.list.as_slice(), |mark| place.0 <= mark.place.0)
+    }
+
+    /// The latest mark before a number that is sought, since the last one that stops the search. A mark may be both: it is found.
+    pub fn latest_since<S: Fn(&Mark<'d>) -> bool, T: Fn(&Mark<'d>) -> bool>(
+        &self,
+        end: usize,
+        sought: S,
+        stop: T,
+    ) -> Option<Mark<'d>>
+        requires sought { S.IsAlwaysCallable sought }
+        requires stop { T.IsAlwaysCallable stop }
+        ensures { (p q : _) → Answers S.Fn sought p → Answers T.Fn stop q →
+            result ≡ latest_of p q (take end self.now.list.items) }
+    {
+        for mark in self.list[..end.min(self.list.len())].iter().rev() {
+            let here = sought(mark);
+            if here {
+                return Some(*mark);
+            }
+            if stop(mark) {
+                return None;
+            }
+        }
+        None
+    }
+
+    /// The latest mark before a number that is sought.
+    pub fn latest<S: Fn(&Mark<'d>) -> bool>(&self, end: usize, sought: S) -> Option<Mark<'d>>
+        requires sought { S.IsAlwaysCallable sought }
+        ensures { (p : _) → Answers S.Fn sought p →
+            result ≡ latest_of p (λ _. false) (take end self.now.list.items) }
+    {
+        self.latest_since(end, sought, |_| false)
+    }
+
+    /// How many marks before a number are sought, since the last one that stops the search.
+    pub fn count_since<S: Fn(&Mark<'d>) -> bool, T: Fn(&Mark<'d>) -> bool>(
+        &self,
+        end: usize,
+        sought: S,
+        stop: T,
+    ) -> usize
+        requires sought { S.IsAlwaysCallable sought }
+        requires stop { T.IsAlwaysCallable stop }
+        ensures { (p q : _) → Answers S.Fn sought p → Answers T.Fn stop q →
+            result ≡ count_of p q (take end self.now.list.items) }
+    {
+        let mut count = 0;
+        for mark in self.list[..end.min(self.list.len())].iter().rev() {
+            if stop(mark) {
+                break;
+            }
+            if sought(mark) {
+                count += 1;
+            }
+        }
+        count
+    }
+
+    /// The first mark behind a number that is sought.
+    pub fn first_after<S: Fn(&Mark<'d>) -> bool>(
+        &self,
+        number: usize,
+        sought: S,
+    ) -> Option<Mark<'d>>
+        requires sought { S.IsAlwaysCallable sought }
+        ensures { (p : _) → Answers S.Fn sought p →
+            result ≡ first_of p (drop (number + 1) self.now.list.items) }
+    {
+        let behind = number.saturating_add(1).min(self.list.len());
+        first(&self.list[behind..], sought)
+    }
 }

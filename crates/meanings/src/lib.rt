@@ -1,8 +1,11 @@
-// What the marks of a line are and what became of them, and what is diagnosed or refused, in words: the second layer of the program `layers`,
-// and the remarks under its first.
+// The first two layers of the program `layers`: the typed line with what is remarked under it, and its marks, what each is and what became
+// of it.
 #![tactic(auto)]
 
-mod found; // found.rt: what is diagnosed at a place
-mod opened; // opened.rt: where groups, beams and figures were opened
-pub mod meaning; // meaning.rt: the second layer
-pub mod messages; // messages.rt: diagnostics and refusals in words
+mod explanation; // explanation.rt: what was found, and what it means
+mod meaning; // meaning.rt: the marks, what each is and what became of it
+mod openings; // openings.rt: where groups, beams and figures were opened
+mod pieces; // pieces.rt: pieces of a text that fit a row
+pub mod refusals; // refusals.rt: refusals in words
+pub mod shown; // shown.rt: a text and what came of it
+mod typed; // typed.rt: the typed line

@@ -1,599 +1,376 @@
 // The second layer: the marks of the data, what each is and what became of it.
-ghost use Rattle.std.specs.Prelude.{◌<◌, length};
-
-use super::found::{found_at, say_found};
-use super::opened::{
-    Closed, bar_at, has_count, opener_of, records_at, timed_between, tuplet_between,
+use crate::shown::Shown;
+use marks::findings::Finding;
+use marks::lookback::Mark;
+use marks::signs::{
+    BarlineSign, ClefSign, CountSign, KeySign, MeterSign, OctaveSign, PatternSign, WholeBarsSign,
 };
-use decode::{Figure, Marking, Token};
-use marks::lookback::{Sought, first_behind, latest};
-use marks::say::say_mark_at;
-use marks::table::{end_of, place_of, start_of, stored_at, token_at};
-use rows::row::{end_row, number_in, part_in, say, say_heading, say_number, say_row};
-use rows::terms::{say_alteration, say_letter, wide};
-use signs::attribute::say_attribute;
-use signs::sign::{
-    say_barline_form, say_count_mark, say_octave_mark, say_pattern_mark, say_whole_bars_mark,
-};
-use signs::waiting::{say_chord_taker, say_grace_taker, say_open, say_sign_taker, say_tie_taker};
-use std::io;
+use marks::waiting::Fate;
+use rows::headings::show_heading;
+use rows::terms::{Alteration, Signature, Term};
+use rows::text::Excerpt;
 use std::io::Write;
-use values::attributes::Meter;
-use values::rhythm::{Barline, Octave};
+use std::{fmt, io};
+use stores::diagnostic::Remark;
+use tokens::attributes::Key;
+use tokens::cut::Place;
+use tokens::kinds::{Figure, Grace, Marking, Token};
+use tokens::rhythm::{Edge, Step};
 
-// ---- what is set for a bar
+/// What a mark is and what became of it; the records and the findings tell that where `told` says so.
+#[derive(Clone, Copy)]
+struct Meaning<'a, 'd> {
+    shown: Shown<'a, 'd>,
+    mark: Mark<'d>,
+    remark: Option<Remark>,
+    told: bool,
+}
 
-// What is set at the start of a bar, and no bar follows.
-fn say_lost<W: Write>(
-    out: &mut W,
-    table: &[usize],
-    k: usize,
-    count: usize,
-    found: u32,
-    accepted: bool,
-) -> io::Result<()> {
-    if accepted & (found != 3) & (found != 5) & (found != 7) {
-        if first_behind(table, k, count, Sought::Storing) == 0 {
-            say(out, b"; no bar follows, so it is lost")?;
+impl<'a, 'd> Meaning<'a, 'd> {
+    // ---- what is set for a bar
+
+    /// What is set at the start of a bar is lost where no bar follows.
+    fn say_lost<W: fmt::Write>(&self, f: &mut fmt::Formatter<W>) -> fmt::Result {
+        let next = self
+            .shown
+            .marks
+            .first_after(self.mark.number, |mark| mark.stores());
+        f.write_str(if self.told && next.is_none() {
+            "; no bar follows, so it is lost"
+        } else {
+            ""
+        })
+    }
+
+    /// What became of a clef, a key or a meter.
+    fn say_set<W: fmt::Write>(&self, f: &mut fmt::Formatter<W>) -> fmt::Result {
+        match self.remark {
+            Some(Remark::AfterNotes) => f.write_str(", not taken"),
+            Some(Remark::UnknownClef | Remark::NoMeter) => f.write_str(": nothing is set"),
+            _ => self.say_lost(f),
         }
     }
-    Ok(())
-}
 
-// ---- signs and letters
+    fn say_barline<W: fmt::Write>(&self, f: &mut fmt::Formatter<W>, left: Edge) -> fmt::Result {
+        if left == Edge::RepeatStart {
+            self.say_lost(f)?;
+        }
+        f.write_str(if self.told && self.shown.last_of_bar(self.mark).is_none() {
+            "; the bar is empty and goes on"
+        } else {
+            ""
+        })
+    }
 
-fn say_sign_mark<W: Write>(
-    out: &mut W,
-    data: &[u8],
-    table: &[usize],
-    k: usize,
-    count: usize,
-    alter: i8,
-) -> io::Result<()> {
-    say_alteration(out, wide(alter))?;
-    say_sign_taker(out, data, table, k, count)
-}
+    // ---- groups, beams, figures
 
-// `accepted`: the records tell whether it opened a note.
-fn say_letter_mark<W: Write>(
-    out: &mut W,
-    table: &[usize],
-    k: usize,
-    step: u8,
-    accepted: bool,
-) -> io::Result<()> {
-    say(out, b"letter ")?;
-    say_letter(out, step as u32)?;
-    if accepted {
-        if stored_at(table, k) == 0 {
-            say(out, b", joins a chord")?;
+    /// What ends here; the mark that opened it, where something is made of it: it was opened in this bar.
+    fn say_end<W: fmt::Write>(
+        &self,
+        f: &mut fmt::Formatter<W>,
+        word: &str,
+        opener: Option<Mark<'d>>,
+    ) -> Result<Option<Mark<'d>>, fmt::Error> {
+        if !self.told {
+            write!(f, "end of a {word}")?;
+            return Ok(None);
+        }
+        let Some(opener) = opener else {
+            write!(f, "no {word} to end")?;
+            return Ok(None);
+        };
+        write!(f, "{word} ends, opened by {opener}")?;
+        if self.shown.bar_at(opener) != self.shown.bar_at(self.mark) {
+            f.write_str(" in an earlier bar: nothing is made of it")?;
+            return Ok(None);
+        }
+        Ok(Some(opener))
+    }
+
+    fn say_figure<W: fmt::Write>(&self, f: &mut fmt::Formatter<W>) -> fmt::Result {
+        let opener = self.shown.figure_opener(self.mark);
+        if opener.is_none() {
+            let end = self
+                .shown
+                .marks
+                .first_after(self.mark.number, |mark| mark.is_figure_mark());
+            f.write_str("figure starts")?;
+            return f.write_str(if end.is_none() {
+                ", and no ! follows"
+            } else {
+                ""
+            });
+        }
+        match self.say_end(f, "figure", opener)? {
+            Some(opener) if self.shown.notes_between(opener, self.mark).len() == 0 => {
+                f.write_str(": of no note")
+            }
+            _ => Ok(()),
         }
     }
-    Ok(())
+
+    fn say_beam_end<W: fmt::Write>(&self, f: &mut fmt::Formatter<W>) -> fmt::Result {
+        let opener = self.shown.beam_opener(self.mark);
+        match self.say_end(f, "beam", opener)? {
+            Some(opener) if self.shown.timed_between(opener, self.mark) < 2 => {
+                f.write_str(": of fewer than two no beam is made")
+            }
+            _ => Ok(()),
+        }
+    }
+
+    fn say_group_end<W: fmt::Write>(&self, f: &mut fmt::Formatter<W>) -> fmt::Result {
+        let opener = self.shown.group_opener(self.mark);
+        match self.say_end(f, "group", opener)? {
+            Some(opener) => self.say_grouped(f, opener),
+            None => Ok(()),
+        }
+    }
+
+    /// What is made of a group of the open bar.
+    fn say_grouped<W: fmt::Write>(
+        &self,
+        f: &mut fmt::Formatter<W>,
+        opener: Mark<'d>,
+    ) -> fmt::Result {
+        if self.remark == Some(Remark::TooFew) {
+            return f.write_str(": of fewer than three no tuplet is made");
+        }
+        match self.shown.timed_between(opener, self.mark) {
+            0 => f.write_str(": without a note or rest, graces apart, nothing is made of it"),
+            1 if !self.shown.has_count(self.mark) => f.write_str(": a fermata"),
+            _ => match self.shown.tuplet_between(opener, self.mark) {
+                Some(tuplet) => {
+                    let actual = tuplet.actual;
+                    write!(f, ": a tuplet of {actual}")
+                }
+                None => Ok(()),
+            },
+        }
+    }
+
+    // ---- what it did, and what takes it
+
+    /// Its words where nothing tells what it did, where it was remarked on, and where it was done.
+    fn outcome(
+        &self,
+        untold: &'static str,
+        remark: Remark,
+        failed: &'static str,
+        done: &'static str,
+    ) -> &'static str {
+        if !self.told {
+            untold
+        } else if self.remark == Some(remark) {
+            failed
+        } else {
+            done
+        }
+    }
+
+    /// What became of it, where the records tell that.
+    fn say_fate<W: fmt::Write>(&self, f: &mut fmt::Formatter<W>, fate: Fate<'d>) -> fmt::Result {
+        if self.told {
+            write!(f, "{fate}")?;
+        }
+        Ok(())
+    }
+
+    fn say_letter<W: fmt::Write>(&self, f: &mut fmt::Formatter<W>, step: Step) -> fmt::Result {
+        let step = Term(step);
+        write!(f, "letter {step}")?;
+        f.write_str(if self.told && !self.mark.stores() {
+            ", joins a chord"
+        } else {
+            ""
+        })
+    }
+
+    fn say_tie<W: fmt::Write>(&self, f: &mut fmt::Formatter<W>) -> fmt::Result {
+        f.write_str("tie")?;
+        if self.remark == Some(Remark::TieAlone) {
+            return f.write_str(", no note right before it in this bar");
+        }
+        self.say_fate(f, Fate::of_tie(self.shown.marks, self.mark))
+    }
+
+    fn say_trill<W: fmt::Write>(&self, f: &mut fmt::Formatter<W>) -> fmt::Result {
+        f.write_str("trill")?;
+        f.write_str(if self.remark == Some(Remark::TrillAlone) {
+            ", no note or rest before it in this bar"
+        } else if self.told {
+            " on the last note or rest"
+        } else {
+            ""
+        })
+    }
+
+    // ---- by the kind of the mark
+
+    fn say_marking<W: fmt::Write>(
+        &self,
+        f: &mut fmt::Formatter<W>,
+        marking: Marking,
+    ) -> fmt::Result {
+        let marks = self.shown.marks;
+        match marking {
+            Marking::BeamOpen => {
+                let fate = Fate::of_beam(marks, self.mark);
+                write!(f, "beam starts{fate}")
+            }
+            Marking::BeamClose => self.say_beam_end(f),
+            Marking::GroupOpen => {
+                let fate = Fate::of_group(marks, self.mark);
+                write!(f, "group starts{fate}")
+            }
+            Marking::GroupCount(count) => {
+                let sign = CountSign(count);
+                write!(f, "{sign}")?;
+                f.write_str(if self.remark == Some(Remark::GroupCount) {
+                    ", not taken"
+                } else {
+                    ""
+                })
+            }
+            Marking::GroupClose => self.say_group_end(f),
+            Marking::Tie => self.say_tie(f),
+            Marking::Trill => self.say_trill(f),
+        }
+    }
+
+    fn say_key<W: fmt::Write>(&self, f: &mut fmt::Formatter<W>, key: Key) -> fmt::Result {
+        let sign = KeySign(key);
+        write!(f, "{sign}")?;
+        if self.remark == Some(Remark::UnusualKey) {
+            let signature = Signature(key.fifths);
+            write!(f, ", not standard: its signature is {signature}")?;
+        }
+        self.say_set(f)
+    }
 }
 
-fn say_chord_mark<W: Write>(
-    out: &mut W,
-    data: &[u8],
-    table: &[usize],
-    k: usize,
-    count: usize,
-    accepted: bool,
-) -> io::Result<()> {
-    say(out, b"chord")?;
-    if accepted {
-        say_chord_taker(out, data, table, k, count)?;
+impl<'a, 'd> fmt::Display for Meaning<'a, 'd> {
+    fn fmt<W: fmt::Write>(&self, f: &mut fmt::Formatter<W>) -> fmt::Result {
+        let marks = self.shown.marks;
+        match self.mark.token {
+            Token::Clef(clef) => {
+                let sign = ClefSign(clef);
+                write!(f, "{sign}")?;
+                self.say_set(f)
+            }
+            Token::Key(key) => self.say_key(f, key),
+            Token::Meter(meter) => {
+                let sign = MeterSign(meter);
+                write!(f, "{sign}")?;
+                self.say_set(f)
+            }
+            Token::Octave(octave) => {
+                let sign = OctaveSign(octave);
+                write!(f, "{sign}")
+            }
+            Token::Duration(_) => {
+                let sign = PatternSign(self.mark.text);
+                write!(f, "{sign}")
+            }
+            Token::Accidental(accidental) => {
+                let alteration = Alteration(accidental.alter());
+                let fate = Fate::of_sign(marks, self.mark);
+                write!(f, "{alteration}{fate}")
+            }
+            Token::Letter(step) => self.say_letter(f, step),
+            Token::Chord => {
+                f.write_str("chord")?;
+                self.say_fate(f, Fate::of_chord(marks, self.mark))
+            }
+            Token::Rest => f.write_str("rest"),
+            Token::WholeBars(count) => {
+                let sign = WholeBarsSign(count);
+                write!(f, "{sign}")
+            }
+            Token::Barline(barline) => {
+                let sign = BarlineSign(barline);
+                write!(f, "{sign}")?;
+                self.say_barline(f, barline.left)
+            }
+            Token::Grace(grace) => {
+                f.write_str(match grace {
+                    Grace::Acciaccatura => "slashed grace",
+                    Grace::Appoggiatura => "grace",
+                })?;
+                self.say_fate(f, Fate::of_grace(marks, self.mark))
+            }
+            Token::GraceGroup(true) => f.write_str("grace group starts"),
+            Token::GraceGroup(false) => f.write_str(self.outcome(
+                "end of a grace group",
+                Remark::NoRule,
+                "no grace group to end",
+                "grace group ends",
+            )),
+            Token::Figure(Figure::Mark) => self.say_figure(f),
+            Token::Figure(Figure::Repeat) => f.write_str(self.outcome(
+                "repeat of a figure",
+                Remark::NoFigure,
+                "no figure to repeat",
+                "repeats the figure",
+            )),
+            Token::Figure(Figure::Bar) => f.write_str(self.outcome(
+                "repeat of a bar",
+                Remark::NoBarToRepeat,
+                "no bar to repeat here",
+                "repeats the last bar",
+            )),
+            Token::Marking(marking) => self.say_marking(f, marking),
+            Token::Blank => f.write_str("blank"),
+            Token::Colon => f.write_str("a colon alone is no barline"),
+            Token::Unknown => f.write_str("no rule for it"),
+        }
     }
-    Ok(())
 }
 
-// ---- barlines
+/// The numbers of what was found at a place, in brackets.
+#[derive(Clone, Copy)]
+struct Numbers<'a> {
+    findings: &'a [Finding],
+    place: Place,
+}
 
-fn say_barline_mark<W: Write>(
-    out: &mut W,
-    table: &[usize],
-    k: usize,
-    count: usize,
-    barline: Barline,
-    accepted: bool,
-) -> io::Result<()> {
-    say(out, b"barline")?;
-    say_barline_form(out, barline)?;
-    if barline.left == 2 {
-        say_lost(out, table, k, count, 0, accepted)?;
-    }
-    if accepted {
-        if 0 < k {
-            if latest(table, k - 1, Sought::Storing, Sought::Barline) == 0 {
-                say(out, b"; the bar is empty and goes on")?;
+impl<'a> fmt::Display for Numbers<'a> {
+    fn fmt<W: fmt::Write>(&self, f: &mut fmt::Formatter<W>) -> fmt::Result {
+        let mut before = " (";
+        for finding in self.findings {
+            if finding.place() == Some(self.place) {
+                let number = i32::from(finding.remark);
+                write!(f, "{before}d{number}")?;
+                before = ", ";
             }
         }
-    }
-    Ok(())
-}
-
-// ---- graces, figures
-
-fn say_grace_mark<W: Write>(
-    out: &mut W,
-    data: &[u8],
-    table: &[usize],
-    k: usize,
-    count: usize,
-    slashed: bool,
-    accepted: bool,
-) -> io::Result<()> {
-    if slashed {
-        say(out, b"slashed grace")?;
-    } else {
-        say(out, b"grace")?;
-    }
-    if accepted {
-        say_grace_taker(out, data, table, k, count)?;
-    }
-    Ok(())
-}
-
-fn say_grace_group_mark<W: Write>(
-    out: &mut W,
-    starts: bool,
-    found: u32,
-    accepted: bool,
-) -> io::Result<()> {
-    if starts {
-        say(out, b"grace group starts")?;
-        return Ok(());
-    }
-    if !accepted {
-        say(out, b"end of a grace group")?;
-        return Ok(());
-    }
-    if found == 15 {
-        say(out, b"no grace group to end")?;
-        return Ok(());
-    }
-    say(out, b"grace group ends")
-}
-
-// What ends, and where it was opened; in a later bar nothing is made of it. Whether it is the bar's own.
-fn say_ending<W: Write>(
-    out: &mut W,
-    words: &[u8],
-    data: &[u8],
-    table: &[usize],
-    notes: &[i32],
-    k: usize,
-    opener: usize,
-) -> io::Result<bool> {
-    say(out, words)?;
-    say(out, b" ends, opened by ")?;
-    say_mark_at(out, data, table, opener)?;
-    if bar_at(table, notes, opener) != bar_at(table, notes, k) {
-        say(out, b" in an earlier bar: nothing is made of it")?;
-        return Ok(false);
-    }
-    Ok(true)
-}
-
-fn say_figure_start<W: Write>(
-    out: &mut W,
-    table: &[usize],
-    k: usize,
-    count: usize,
-) -> io::Result<()> {
-    say(out, b"figure starts")?;
-    if first_behind(table, k, count, Sought::FigureMark) == 0 {
-        say(out, b", and no ! follows")?;
-    }
-    Ok(())
-}
-
-fn say_figure_end<W: Write>(
-    out: &mut W,
-    data: &[u8],
-    table: &[usize],
-    notes: &[i32],
-    k: usize,
-    opener: usize,
-) -> io::Result<()> {
-    let own = say_ending(out, b"figure", data, table, notes, k, opener)?;
-    if own & (records_at(table, k) == records_at(table, opener)) {
-        say(out, b": of no note")?;
-    }
-    Ok(())
-}
-
-fn say_figure_bound<W: Write>(
-    out: &mut W,
-    data: &[u8],
-    table: &[usize],
-    notes: &[i32],
-    k: usize,
-    count: usize,
-    accepted: bool,
-) -> io::Result<()> {
-    let opener = opener_of(table, k, Closed::Figure);
-    if opener == 0 {
-        say_figure_start(out, table, k, count)?;
-        return Ok(());
-    }
-    if accepted {
-        say_figure_end(out, data, table, notes, k, opener)?;
-        return Ok(());
-    }
-    say(out, b"end of a figure")
-}
-
-fn say_repeat<W: Write>(out: &mut W, found: u32, accepted: bool) -> io::Result<()> {
-    if !accepted {
-        say(out, b"repeat of a figure")?;
-        return Ok(());
-    }
-    if found == 18 {
-        say(out, b"no figure to repeat")?;
-        return Ok(());
-    }
-    say(out, b"repeats the figure")
-}
-
-fn say_bar_repeat<W: Write>(out: &mut W, found: u32, accepted: bool) -> io::Result<()> {
-    if !accepted {
-        say(out, b"repeat of a bar")?;
-        return Ok(());
-    }
-    if found == 19 {
-        say(out, b"no bar to repeat here")?;
-        return Ok(());
-    }
-    say(out, b"repeats the last bar")
-}
-
-fn say_figure_mark<W: Write>(
-    out: &mut W,
-    data: &[u8],
-    table: &[usize],
-    notes: &[i32],
-    k: usize,
-    count: usize,
-    which: Figure,
-    found: u32,
-    accepted: bool,
-) -> io::Result<()> {
-    match which {
-        Figure::Mark => say_figure_bound(out, data, table, notes, k, count, accepted)?,
-        Figure::Repeat => say_repeat(out, found, accepted)?,
-        Figure::Bar => say_bar_repeat(out, found, accepted)?,
-    }
-    Ok(())
-}
-
-// ---- beams, groups, ties, trills
-
-fn say_beam_start<W: Write>(
-    out: &mut W,
-    data: &[u8],
-    table: &[usize],
-    k: usize,
-    count: usize,
-) -> io::Result<()> {
-    say(out, b"beam starts")?;
-    let other = first_behind(table, k, count, Sought::BeamOpen);
-    let close = first_behind(table, k, count, Sought::BeamClose);
-    say_open(out, data, table, other, close, b", and no } follows")
-}
-
-fn say_group_start<W: Write>(
-    out: &mut W,
-    data: &[u8],
-    table: &[usize],
-    k: usize,
-    count: usize,
-) -> io::Result<()> {
-    say(out, b"group starts")?;
-    let other = first_behind(table, k, count, Sought::GroupOpen);
-    let close = first_behind(table, k, count, Sought::GroupClose);
-    say_open(out, data, table, other, close, b", and no ) follows")
-}
-
-fn say_beam_end<W: Write>(
-    out: &mut W,
-    data: &[u8],
-    table: &[usize],
-    notes: &[i32],
-    k: usize,
-    accepted: bool,
-) -> io::Result<()> {
-    let opener = opener_of(table, k, Closed::Beam);
-    if !accepted {
-        say(out, b"end of a beam")?;
-        return Ok(());
-    }
-    if opener == 0 {
-        say(out, b"no beam to end")?;
-        return Ok(());
-    }
-    let own = say_ending(out, b"beam", data, table, notes, k, opener)?;
-    if own & (timed_between(table, notes, opener, k) < 2) {
-        say(out, b": of fewer than two no beam is made")?;
-    }
-    Ok(())
-}
-
-// What became of a group of the open bar: so many notes and rests, graces apart.
-fn say_grouped<W: Write>(
-    out: &mut W,
-    data: &[u8],
-    table: &[usize],
-    notes: &[i32],
-    opener: usize,
-    k: usize,
-    found: u32,
-) -> io::Result<()> {
-    if found == 11 {
-        say(out, b": of fewer than three no tuplet is made")?;
-        return Ok(());
-    }
-    let timed = timed_between(table, notes, opener, k);
-    if timed == 0 {
-        say(
-            out,
-            b": without a note or rest, graces apart, nothing is made of it",
-        )?;
-        return Ok(());
-    }
-    if (timed == 1) & !has_count(data, table, opener, k) {
-        say(out, b": a fermata")?;
-        return Ok(());
-    }
-    say(out, b": a tuplet of ")?;
-    say_number(out, tuplet_between(table, notes, opener, k) as u64)
-}
-
-fn say_group_end<W: Write>(
-    out: &mut W,
-    data: &[u8],
-    table: &[usize],
-    notes: &[i32],
-    k: usize,
-    found: u32,
-    accepted: bool,
-) -> io::Result<()> {
-    let opener = opener_of(table, k, Closed::Group);
-    if !accepted {
-        say(out, b"end of a group")?;
-        return Ok(());
-    }
-    if opener == 0 {
-        say(out, b"no group to end")?;
-        return Ok(());
-    }
-    if say_ending(out, b"group", data, table, notes, k, opener)? {
-        say_grouped(out, data, table, notes, opener, k, found)?;
-    }
-    Ok(())
-}
-
-fn say_tie_mark<W: Write>(
-    out: &mut W,
-    data: &[u8],
-    table: &[usize],
-    k: usize,
-    count: usize,
-    found: u32,
-    accepted: bool,
-) -> io::Result<()> {
-    say(out, b"tie")?;
-    if found == 16 {
-        say(out, b", no note right before it in this bar")?;
-        return Ok(());
-    }
-    if accepted {
-        say_tie_taker(out, data, table, k, count)?;
-    }
-    Ok(())
-}
-
-fn say_trill_mark<W: Write>(out: &mut W, found: u32, accepted: bool) -> io::Result<()> {
-    say(out, b"trill")?;
-    if found == 14 {
-        say(out, b", no note or rest before it in this bar")?;
-        return Ok(());
-    }
-    if accepted {
-        say(out, b" on the last note or rest")?;
-    }
-    Ok(())
-}
-
-fn say_marking_mark<W: Write>(
-    out: &mut W,
-    data: &[u8],
-    table: &[usize],
-    notes: &[i32],
-    k: usize,
-    count: usize,
-    which: Marking,
-    value: &[u8],
-    found: u32,
-    accepted: bool,
-) -> io::Result<()> {
-    match which {
-        Marking::BeamOpen => say_beam_start(out, data, table, k, count)?,
-        Marking::BeamClose => say_beam_end(out, data, table, notes, k, accepted)?,
-        Marking::GroupOpen => say_group_start(out, data, table, k, count)?,
-        Marking::GroupCount => say_count_mark(out, value, found)?,
-        Marking::GroupClose => say_group_end(out, data, table, notes, k, found, accepted)?,
-        Marking::Tie => say_tie_mark(out, data, table, k, count, found, accepted)?,
-        Marking::Trill => say_trill_mark(out, found, accepted)?,
-    }
-    Ok(())
-}
-
-// ---- rows
-
-fn is_attribute(token: Token) -> bool {
-    match token {
-        Token::Clef => true,
-        Token::Key => true,
-        Token::Meter => true,
-        _ => false,
+        f.write_str(if before == ", " { ")" } else { "" })
     }
 }
 
-// What mark k is and what became of it; `mark` is its text, `found` the last diagnostic at it. Of so many marks.
-fn say_meaning<W: Write>(
-    out: &mut W,
-    data: &[u8],
-    table: &[usize],
-    notes: &[i32],
-    k: usize,
-    count: usize,
-    mark: &[u8],
-    found: u32,
-    accepted: bool,
-) -> io::Result<()>
-    requires { 0 < length mark.now }
-{
-    let token = token_at(data, table, k);
-    if is_attribute(token) {
-        say_attribute(out, token, &mark[1..], found)?;
-        say_lost(out, table, k, count, found, accepted)?;
-        return Ok(());
-    }
-    say_other(
-        out, data, table, notes, k, count, mark, found, accepted, token,
-    )
-}
-
-// A mark that sets nothing for a bar.
-fn say_other<W: Write>(
-    out: &mut W,
-    data: &[u8],
-    table: &[usize],
-    notes: &[i32],
-    k: usize,
-    count: usize,
-    mark: &[u8],
-    found: u32,
-    accepted: bool,
-    token: Token,
-) -> io::Result<()>
-    requires { 0 < length mark.now }
-{
-    match token {
-        Token::Octave(o) => say_octave_mark(out, o)?,
-        Token::Duration => say_pattern_mark(out, mark)?,
-        Token::Accidental(a) => say_sign_mark(out, data, table, k, count, a)?,
-        Token::Letter(step) => say_letter_mark(out, table, k, step, accepted)?,
-        Token::Chord => say_chord_mark(out, data, table, k, count, accepted)?,
-        Token::Rest => say(out, b"rest")?,
-        Token::WholeBars(bars) => say_whole_bars_mark(out, bars)?,
-        Token::BadCount => say(
-            out,
-            b"whole-bar rest, its count is not 1 to 1,000: nothing is stored",
-        )?,
-        Token::Barline(b) => say_barline_mark(out, table, k, count, b, accepted)?,
-        Token::Grace(g) => say_grace_mark(out, data, table, k, count, g, accepted)?,
-        Token::GraceGroup(g) => say_grace_group_mark(out, g, found, accepted)?,
-        Token::Figure(f) => say_figure_mark(out, data, table, notes, k, count, f, found, accepted)?,
-        Token::Marking(m) => {
-            say_marking_mark(
-                out,
-                data,
-                table,
-                notes,
-                k,
-                count,
-                m,
-                &mark[1..],
-                found,
-                accepted,
-            )?
+impl<'a, 'd> Shown<'a, 'd> {
+    /// The second layer: a row for each mark but blanks, which do nothing.
+    pub fn show_marks<W: Write>(&self, out: &mut W) -> io::Result<()> {
+        show_heading(out, "2. Its marks")?;
+        writeln!(out, "   place  mark        what it is")?;
+        let told = self.tells_all();
+        for mark in self.marks.as_slice() {
+            if !matches!(mark.token, Token::Blank) {
+                let number = mark.place.0;
+                let text = Excerpt(mark.text);
+                let meaning = Meaning {
+                    shown: *self,
+                    mark: *mark,
+                    remark: self.remark_at(mark.place),
+                    told,
+                };
+                let numbers = Numbers {
+                    findings: self.findings,
+                    place: mark.place,
+                };
+                writeln!(out, "{number:>8}  {text:<10}  {meaning}{numbers}")?;
+            }
         }
-        Token::Blank => say(out, b"blank")?,
-        Token::Colon => say(out, b"a colon alone is no barline")?,
-        _ => say(out, b"no rule for it")?,
+        Ok(())
     }
-    Ok(())
-}
-
-fn is_blank_mark(token: Token) -> bool {
-    match token {
-        Token::Blank => true,
-        _ => false,
-    }
-}
-
-// A row for a mark. Blanks do nothing and have none.
-fn show_mark<W: Write>(
-    out: &mut W,
-    data: &[u8],
-    table: &[usize],
-    notes: &[i32],
-    k: usize,
-    count: usize,
-    diagnostics: &[i32],
-    diagnosed: u32,
-    accepted: bool,
-) -> io::Result<()> {
-    if is_blank_mark(token_at(data, table, k)) {
-        return Ok(());
-    }
-    let start = start_of(table, k);
-    let end = end_of(table, k);
-    if start < end {
-        if end <= data.len() {
-            let place = place_of(table, k);
-            let found = found_at(diagnostics, diagnosed, place);
-            number_in(out, place as u64, 8)?;
-            say(out, b"  ")?;
-            part_in(out, data, start, end, 10)?;
-            say(out, b"  ")?;
-            say_meaning(
-                out,
-                data,
-                table,
-                notes,
-                k,
-                count,
-                &data[start..end],
-                found,
-                accepted,
-            )?;
-            say_found(out, diagnostics, diagnosed, place)?;
-            end_row(out)?;
-        }
-    }
-    Ok(())
-}
-
-// The second layer: so many marks; the diagnostics tell what became of them, and the records where the text is accepted.
-pub fn show_marks<W: Write>(
-    out: &mut W,
-    data: &[u8],
-    table: &[usize],
-    count: usize,
-    notes: &[i32],
-    diagnostics: &[i32],
-    diagnosed: u32,
-    accepted: bool,
-) -> io::Result<()> {
-    say_heading(out, b"2. Its marks")?;
-    say_row(out, b"   place  mark        what it is")?;
-    let mut k = 0;
-    while k < count {
-        k += 1;
-        show_mark(
-            out,
-            data,
-            table,
-            notes,
-            k,
-            count,
-            diagnostics,
-            diagnosed,
-            accepted,
-        )?;
-    }
-    Ok(())
 }

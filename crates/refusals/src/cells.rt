@@ -1,62 +1,82 @@
 // What is lent, before and after a call.
-use super::table::lent_number;
-use ending::Reading;
-use records::cells::{BAR, NOTE};
-use show::word_at;
+ghost use Rattle.std.specs.Prelude.{◌<◌};
 
-// What every cell holds before a call.
+use pae::Diagnostic;
+
+/// What every cell holds before a call.
 pub(crate) const RUBBISH: i32 = -77;
 
-// The words from `start` up to `end` are all this one, or none of them is.
-fn are(words: &[i32], start: usize, end: usize, word: i32, all: bool) -> bool {
-    let mut right = true;
-    let mut i = start;
-    while i < end {
-        right = right & ((word_at(words, i) == word) == all);
-        i += 1;
+/// No rubbish is in the counted words; behind them what is lent is 0, and behind that the rubbish still stands.
+fn are_right(words: &[i32], counted: usize, lent: usize) -> bool {
+    let (lent, behind) = words.split_at(lent.min(words.len()));
+    let (counted, blank) = lent.split_at(counted.min(lent.len()));
+    counted.iter().all(|word| *word != RUBBISH)
+        && blank.iter().all(|word| *word == 0)
+        && behind.iter().all(|word| *word == RUBBISH)
+}
+
+/// So many records of `N` words are counted; each has a number from 1 in one word. All else that is lent is 0.
+pub(crate) fn are_records_right<const N: usize>(
+    words: &[i32],
+    count: u32,
+    word: usize,
+    lent: usize,
+) -> bool
+    requires { 0 < N }
+{
+    let count = count as usize;
+    let (records, _) = words.as_chunks::<N>();
+    count <= records.len()
+        && records.iter().take(count).all(|record| match record.get(word) {
+            Some(word) => 0 < *word,
+            None => false,
+        })
+        && are_right(words, count.saturating_mul(N), lent)
+}
+
+/// All that is lent of a figure is 0.
+pub(crate) fn is_figure_right(words: &[i32], lent: usize) -> bool {
+    are_right(words, 0, lent)
+}
+
+// ---- diagnostics
+
+/// A diagnostic all of whose words are this one.
+pub(crate) fn filled(word: i32) -> Diagnostic {
+    Diagnostic {
+        number: word,
+        place_kind: word,
+        place: word,
+        value_kind: word,
+        start: word,
+        end: word,
     }
-    right
 }
 
-// Each counted record, of `size` words, has a word of 1 or more at `at`.
-fn each_has(words: &[i32], count: u32, size: usize, at: usize) -> bool {
-    let mut right = true;
-    let mut i: u32 = 0;
-    let mut k = at;
-    while i < count {
-        right = right & (0 < word_at(words, k));
-        k = k.wrapping_add(size);
-        i += 1;
-    }
-    right
+fn is_filled(d: &Diagnostic, word: i32) -> bool {
+    d.number == word
+        && d.place_kind == word
+        && d.place == word
+        && d.value_kind == word
+        && d.start == word
+        && d.end == word
 }
 
-// No rubbish is in the counted records; behind them what is lent is 0, and behind that the rubbish still stands.
-fn buffer_right(words: &[i32], counted: usize, lent: usize) -> bool {
-    are(words, 0, counted, RUBBISH, false)
-        & are(words, counted, lent, 0, true)
-        & are(words, lent, words.len(), RUBBISH, true)
+/// d1 to d20, with the kinds of its place and value, and a place; the kind of its value decides on the last two.
+fn is_diagnostic(d: &Diagnostic) -> bool {
+    matches!(d.number, 1..=20)
+        && 0 < d.place_kind
+        && 0 < d.place
+        && 0 < d.value_kind
+        && 0 <= d.start
+        && 0 <= d.end
 }
 
-// A counted note has its place, a counted bar its notes; all else that is lent is 0, the whole figure too.
-pub(crate) fn words_right(
-    line: &[u8],
-    r: Reading,
-    notes: &[i32],
-    bars: &[i32],
-    figure: &[i32],
-) -> bool {
-    each_has(notes, r.notes, NOTE, 0)
-        & each_has(bars, r.bars, BAR, 1)
-        & buffer_right(
-            notes,
-            r.notes as usize * NOTE,
-            lent_number(line, 0, notes.len()),
-        )
-        & buffer_right(
-            bars,
-            r.bars as usize * BAR,
-            lent_number(line, 1, bars.len()),
-        )
-        & buffer_right(figure, 0, lent_number(line, 2, figure.len()))
+/// The counted cells hold a diagnostic each, the further ones that are lent are 0, and behind these the rubbish still stands.
+pub(crate) fn are_diagnostics_right(list: &[Diagnostic], count: u32, lent: usize) -> bool {
+    let (lent, behind) = list.split_at(lent.min(list.len()));
+    let (counted, blank) = lent.split_at((count as usize).min(lent.len()));
+    counted.iter().all(|d| is_diagnostic(d))
+        && blank.iter().all(|d| is_filled(d, 0))
+        && behind.iter().all(|d| is_filled(d, RUBBISH))
 }

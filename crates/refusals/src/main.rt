@@ -3,101 +3,115 @@
 #![tactic(auto)]
 
 mod cells; // cells.rt: what is lent, before and after a call
-mod lend; // lend.rt: the call, with its list of diagnostics
-mod row; // row.rt: rows of the output
 mod table; // table.rt: the lines of the table
 
-use cells::{RUBBISH, words_right};
-use lend::{CELLS, Told, lend};
-use records::cells::{BAR, NOTE};
-use row::{print_line, print_row};
-use show::read_full;
+use cells::{RUBBISH, are_diagnostics_right, are_records_right, filled, is_figure_right};
+use pae::pae_read;
+use std::alloc::Global;
 use std::io;
-use std::io::Write;
-use table::{find, is_heading, least, lent_number, make_text};
+use std::io::{Read, Write};
+use stores::cells::{BAR, NOTE};
+use stores::note::PLACE;
+use table::{Case, Outcome};
 
-// The table has at most so many bytes.
+/// The table has at most so many bytes.
 const TABLE: usize = 65536;
 
-// A text has at most so many bytes: more than are read.
-const TEXT: usize = 65600;
-
-// Lent at most: 40,000 notes, 1,000 bars, 1,000 notes of a figure. Many more notes don't fit a program's stack.
+/// Lent at most: 40,000 notes, 1,000 bars, 1,000 notes of a figure, 2,000 diagnostics. Many more notes don't fit a program's stack.
 const NOTES: usize = 40000 * NOTE;
 
 const BARS: usize = 1000 * BAR;
 
 const FIGURE: usize = 1000 * NOTE;
 
-// Lends the first words of each, as many as the line says.
-fn call(
-    line: &[u8],
-    size: usize,
-    text: &[u8],
-    notes: &mut [i32],
-    bars: &mut [i32],
-    figure: &mut [i32],
-) -> Told {
-    let s = least(size, text.len());
-    let n = lent_number(line, 0, notes.len());
-    let b = lent_number(line, 1, bars.len());
-    let f = lent_number(line, 2, figure.len());
-    let cells = lent_number(line, 3, CELLS);
-    lend(
-        &text[0..s],
-        &mut notes[0..n],
-        &mut bars[0..b],
-        &mut figure[0..f],
-        cells,
-    )
+const CELLS: usize = 2000;
+
+/// The word of a bar that counts its notes.
+const NOTE_COUNT: usize = 1;
+
+/// What came of a case, and whether every cell is as it must be.
+#[derive(Clone, Copy)]
+struct Told {
+    outcome: Outcome,
+    is_right: bool,
 }
 
-// The call that a line of the table asks for, and a look at every word afterwards.
-fn call_line(
-    line: &[u8],
-    text: &mut [u8; TEXT],
-    notes: &mut [i32; NOTES],
-    bars: &mut [i32; BARS],
-    figure: &mut [i32; FIGURE],
-) -> Told {
-    let size = make_text(line, text);
-    let told = call(line, size, text, notes, bars, figure);
-    let reading = told.reading;
-    let right = told.right & words_right(line, reading, notes, bars, figure);
-    Told { reading, right }
-}
-
-// The same, with rubbish in every word.
-fn call_lent(line: &[u8]) -> Told {
-    let mut text = [0u8; TEXT];
+/// The call that a case asks for, with rubbish in every cell, and a look at every cell afterwards.
+fn call(case: Case<'_>, text: &[u8]) -> Told {
     let mut notes = [RUBBISH; NOTES];
     let mut bars = [RUBBISH; BARS];
     let mut figure = [RUBBISH; FIGURE];
-    call_line(line, &mut text, &mut notes, &mut bars, &mut figure)
+    let mut list = [filled(RUBBISH); CELLS];
+    let lent = case.lent();
+    let reading = pae_read(
+        text,
+        &mut notes[..lent.notes.min(NOTES)],
+        &mut bars[..lent.bars.min(BARS)],
+        &mut figure[..lent.figure.min(FIGURE)],
+        &mut list[..lent.cells.min(CELLS)],
+    );
+    Told {
+        outcome: Outcome {
+            number: reading.number,
+            place: reading.place,
+            notes: reading.notes,
+            bars: reading.bars,
+            diagnostics: reading.diagnostics,
+        },
+        is_right: are_records_right::<NOTE>(&notes, reading.notes, PLACE, lent.notes)
+            && are_records_right::<BAR>(&bars, reading.bars, NOTE_COUNT, lent.bars)
+            && is_figure_right(&figure, lent.figure)
+            && are_diagnostics_right(&list, reading.diagnostics, lent.cells),
+    }
 }
 
-// A line of the table: a heading, or a case.
-fn run_line<W: Write>(out: &mut W, line: &[u8]) -> io::Result<()> {
-    if is_heading(line) {
-        print_line(out, line)?;
-        return Ok(());
-    }
-    let told = call_lent(line);
-    print_row(out, line, told.reading, told.right)
+/// The case as the table has it, what came, whether the cells are as they must be, and whether all is as the table says.
+fn print_row<W: Write>(out: &mut W, case: Case<'_>, told: Told) -> io::Result<()> {
+    out.write_all(case.name)?;
+    out.write_all(b"|")?;
+    out.write_all(case.lent)?;
+    out.write_all(b"|")?;
+    out.write_all(case.text)?;
+    let Outcome {
+        number,
+        place,
+        notes,
+        bars,
+        diagnostics,
+    } = told.outcome;
+    let cells = if told.is_right { "right" } else { "WRONG" };
+    let end = if told.outcome == case.expected() {
+        ""
+    } else {
+        ", NOT AS THE TABLE SAYS"
+    };
+    writeln!(
+        out,
+        "| {number} at {place}, counts {notes} {bars} {diagnostics}, cells {cells}{end}"
+    )
 }
 
-fn run_table<W: Write>(out: &mut W, table: &[u8]) -> io::Result<()> {
-    let mut at = 0;
-    while at < table.len() {
-        let end = find(table, at, b'\n');
-        run_line(out, &table[at..end])?;
-        at = end + 1;
+/// A line of the table: a heading, which is empty or has a `#` before it, or a case.
+fn run_line<W: Write>(out: &mut W, alloc: Global, line: &[u8]) -> io::Result<()> {
+    match Case::new(line) {
+        Some(case) if !matches!(line, [b'#', ..]) => {
+            let text = case.text(alloc)?;
+            print_row(out, case, call(case, text.as_slice()))
+        }
+        _ => {
+            out.write_all(line)?;
+            out.write_all(b"\n")
+        }
     }
-    Ok(())
 }
 
 fn main(rt: HostRuntime) -> io::Result<()> {
-    let mut table = [0u8; TABLE];
-    let size = read_full(&mut rt.reader(), &mut table)?;
-    run_table(&mut io::writer(&rt), &table[..size])
+    let alloc = rt.alloc();
+    let mut table = Vec::new(alloc);
+    rt.reader().take(TABLE as u64).read_to_end(&mut table)?;
+    let mut out = io::writer(&rt);
+    for line in table.as_slice().split_inclusive(|byte| *byte == b'\n') {
+        run_line(&mut out, alloc, line.strip_suffix(b"\n").unwrap_or(line))?;
+    }
+    Ok(())
 }

@@ -1,29 +1,35 @@
--- The bytes of a character as it is shown. Assumes nothing.
-use Prim.Native.Nat.{ℕ, ◌-◌, ◌<◌, ◌≤◌}
-use native.Mathlib.Omega.{arith}
-use mathlib.Core.Path.{◌≡◌, refl, ap}
-use mathlib.Core.Bool.{Bool, true, false, ◌&&◌, false≢true}
-use mathlib.Core.List.{List}
-use lib.ListN.{length, take, drop}
-use lib.Dec.{leb}
-use borrow.Author.Tests.{leb-true, le-leb, lt-leb}
-use Rattle.rules.specs.Characters.{is_formed}
-use Rattle.rows.specs.Shown.{formed_in}
+-- The first characters of bytes, and those behind them. Assumes nothing.
+use Rattle.std.proofs.Common.{ℕ, zero, suc, ◌≡◌, ◌+◌, ◌-◌, ◌<◌, ◌≤◌, ◌∙◌, refl, ap, arith, List, [], ◌∷◌, length, take, take_all, drop, length-drop}
+use Rattle.rows.specs.Shown.{shown_size, beginning_size}
 
--- where the bytes are there, they must be well-formed
-pub formed-there : (n : ℕ) (rest : List ℕ) → n ≤ length rest → is_formed (take (n - 0) (drop 0 rest)) ≡ formed_in n rest
-formed-there n rest h = rw (le-leb n (length rest) h) (ap (λ (m : ℕ). is_formed (take m rest)) same)
-  where
-    same : n - 0 ≡ n
-    same = omega arith
+-- none are left, or none are asked for
+pub beginning_none : (most : ℕ) (rest : List ℕ) → length rest ≡ 0 → beginning_size most rest ≡ 0
+beginning_none zero rest h = refl
+beginning_none (suc most) [] h = refl
+beginning_none (suc most) (b ∷ rest) h = absurd (omega (arith, h))
 
-pub formed-missing : (n : ℕ) (rest : List ℕ) → length rest < n → formed_in n rest ≡ false
-formed-missing n rest h = rw (lt-leb n (length rest) h)
+pub beginning_more : (most : ℕ) (rest : List ℕ) → 0 < length rest
+    → beginning_size (suc most) rest ≡ shown_size rest + beginning_size most (drop (shown_size rest) rest)
+beginning_more most [] h = absurd (omega (arith, h))
+beginning_more most (b ∷ rest) h = refl
 
--- and they are within the text
-pub formed-within : (n : ℕ) (rest : List ℕ) → formed_in n rest ≡ true → n ≤ length rest
-formed-within n rest e = leb-true n (length rest) (first (leb n (length rest)) (is_formed (take n rest)) e)
-  where
-    first : (a b : Bool) → a && b ≡ true → a ≡ true
-    first true b e = refl
-    first false b e = absurd (false≢true e)
+-- one character more
+pub beginning_step : (most i : ℕ) (text rest : List ℕ) (size : ℕ) (next : List ℕ)
+    → i < most → 0 < length rest → length rest ≤ length text → size ≤ length rest
+    → size ≡ shown_size rest → next ≡ take (length rest - size) (drop size rest)
+    → length text - length rest + beginning_size (most - i) rest ≡ beginning_size most text
+    → length text - length next + beginning_size (most - (i + 1)) next ≡ beginning_size most text
+beginning_step most i text rest size next w some within small s n h =
+    let k : most - i ≡ suc (most - (i + 1)) = omega (arith, w) in
+    let behind : next ≡ drop size rest = n ∙ take_all _ _ (omega (arith, length-drop size rest)) in
+    let e : beginning_size (most - i) rest ≡ size + beginning_size (most - (i + 1)) next
+        = rw (behind, s) (ap (λ k. beginning_size k rest) k ∙ beginning_more (most - (i + 1)) rest some) in
+    let long : length next ≡ length rest - size = ap (λ (l : List ℕ). length l) behind ∙ length-drop size rest in
+    omega (arith, e, h, within, small, long)
+
+pub beginning_done : (most i : ℕ) (text rest : List ℕ) → most ≤ i
+    → length text - length rest + beginning_size (most - i) rest ≡ beginning_size most text → length text - length rest ≡ beginning_size most text
+beginning_done most i text rest w h =
+    let k : most - i ≡ 0 = omega (arith, w) in
+    let e : beginning_size (most - i) rest ≡ 0 = ap (λ k. beginning_size k rest) k in
+    omega (arith, e, h)

@@ -1,213 +1,210 @@
-// The field's terms for the numbers in the records. A term with `columns` takes at least so many.
-ghost use Rattle.std.specs.Prelude.{◌≡◌};
+// The field's terms, as they are shown.
+use std::fmt;
+use stores::note::{NoteKind, Pitch};
+use tokens::attributes::{Clef, Meter, Symbol};
+use tokens::cut::Place;
+use tokens::rhythm::{Duration, Edge, Length, Step};
 
-use super::row::{put, say, say_in, say_number};
-use std::io;
-use std::io::Write;
+/// A value by the field's term for it.
+#[derive(Clone, Copy)]
+pub struct Term<T>(pub T);
 
-// The letter of a step from C.
-fn letter_of(step: u32) -> u8 {
-    match step {
-        0 => b'C',
-        1 => b'D',
-        2 => b'E',
-        3 => b'F',
-        4 => b'G',
-        5 => b'A',
-        _ => b'B',
+impl fmt::Display for Term<Place> {
+    fn fmt<W: fmt::Write>(&self, f: &mut fmt::Formatter<W>) -> fmt::Result {
+        let place = self.0.0;
+        write!(f, "place {place}")
     }
 }
 
-pub fn say_letter<W: Write>(out: &mut W, step: u32) -> io::Result<()> {
-    put(out, letter_of(step))
-}
-
-// A small signed number as a word holds it.
-pub fn wide(number: i8) -> i32
-    ensures { result ≡ number }
-{
-    number as i32
-}
-
-// An alteration behind its letter.
-pub fn say_sign<W: Write>(out: &mut W, alter: i32) -> io::Result<()> {
-    match alter {
-        2 => say(out, b"##")?,
-        1 => say(out, b"#")?,
-        -1 => say(out, b"b")?,
-        -2 => say(out, b"bb")?,
-        _ => {}
+impl fmt::Display for Term<Step> {
+    fn fmt<W: fmt::Write>(&self, f: &mut fmt::Formatter<W>) -> fmt::Result {
+        f.pad(match self.0 {
+            Step::C => "C",
+            Step::D => "D",
+            Step::E => "E",
+            Step::F => "F",
+            Step::G => "G",
+            Step::A => "A",
+            Step::B => "B",
+        })
     }
-    Ok(())
 }
 
-// A pitch: letter, alteration, octave.
-pub fn say_pitch<W: Write>(out: &mut W, step: u32, alter: i32, octave: u32) -> io::Result<()> {
-    say_letter(out, step)?;
-    say_sign(out, alter)?;
-    say_number(out, octave as u64)
-}
-
-// An alteration in words.
-pub fn say_alteration<W: Write>(out: &mut W, alter: i32) -> io::Result<()> {
-    match alter {
-        2 => say(out, b"double sharp")?,
-        1 => say(out, b"sharp")?,
-        -1 => say(out, b"flat")?,
-        -2 => say(out, b"double flat")?,
-        _ => say(out, b"natural")?,
+impl fmt::Display for Term<Duration> {
+    fn fmt<W: fmt::Write>(&self, f: &mut fmt::Formatter<W>) -> fmt::Result {
+        f.pad(match self.0 {
+            Duration::Longa => "longa",
+            Duration::Breve => "breve",
+            Duration::Whole => "whole",
+            Duration::Half => "half",
+            Duration::Quarter => "quarter",
+            Duration::Eighth => "eighth",
+            Duration::Sixteenth => "16th",
+            Duration::ThirtySecond => "32nd",
+            Duration::SixtyFourth => "64th",
+            Duration::HundredTwentyEighth => "128th",
+        })
     }
-    Ok(())
 }
 
-pub fn say_duration<W: Write>(out: &mut W, duration: u32, columns: usize) -> io::Result<()> {
-    match duration {
-        0 => say_in(out, b"longa", columns)?,
-        1 => say_in(out, b"breve", columns)?,
-        2 => say_in(out, b"whole", columns)?,
-        3 => say_in(out, b"half", columns)?,
-        4 => say_in(out, b"quarter", columns)?,
-        5 => say_in(out, b"eighth", columns)?,
-        6 => say_in(out, b"16th", columns)?,
-        7 => say_in(out, b"32nd", columns)?,
-        8 => say_in(out, b"64th", columns)?,
-        _ => say_in(out, b"128th", columns)?,
+/// A length with its dots before it, in words.
+impl fmt::Display for Term<Length> {
+    fn fmt<W: fmt::Write>(&self, f: &mut fmt::Formatter<W>) -> fmt::Result {
+        f.write_str(match self.0.dots {
+            0 => "",
+            1 => "dotted ",
+            2 => "double-dotted ",
+            _ => "triple-dotted ",
+        })?;
+        let duration = Term(self.0.duration);
+        write!(f, "{duration}")
     }
-    Ok(())
 }
 
-// The dots of a length, a space before them.
-pub fn say_dots<W: Write>(out: &mut W, dots: u32, columns: usize) -> io::Result<()> {
-    match dots {
-        0 => say_in(out, b"", columns)?,
-        1 => say_in(out, b" .", columns)?,
-        2 => say_in(out, b" ..", columns)?,
-        _ => say_in(out, b" ...", columns)?,
+impl fmt::Display for Term<NoteKind> {
+    fn fmt<W: fmt::Write>(&self, f: &mut fmt::Formatter<W>) -> fmt::Result {
+        f.pad(match self.0 {
+            NoteKind::Note => "note",
+            NoteKind::Rest => "rest",
+            NoteKind::Grace => "grace",
+            NoteKind::SlashedGrace => "slashed grace",
+            NoteKind::WholeBarRest => "whole-bar rest",
+        })
     }
-    Ok(())
 }
 
-// The dots of a length in words.
-fn say_dotted<W: Write>(out: &mut W, dots: u32) -> io::Result<()> {
-    match dots {
-        0 => {}
-        1 => say(out, b"dotted ")?,
-        2 => say(out, b"double-dotted ")?,
-        _ => say(out, b"triple-dotted ")?,
+impl fmt::Display for Term<Clef> {
+    fn fmt<W: fmt::Write>(&self, f: &mut fmt::Formatter<W>) -> fmt::Result {
+        f.pad(match self.0 {
+            Clef::Treble => "treble",
+            Clef::Treble8vb => "treble 8vb",
+            Clef::Bass => "bass",
+            Clef::Soprano => "soprano",
+            Clef::MezzoSoprano => "mezzosoprano",
+            Clef::Alto => "alto",
+            Clef::Tenor => "tenor",
+            Clef::Baritone => "baritone",
+        })
     }
-    Ok(())
 }
 
-// A length in words.
-pub fn say_length<W: Write>(out: &mut W, duration: u32, dots: u32) -> io::Result<()> {
-    say_dotted(out, dots)?;
-    say_duration(out, duration, 0)
-}
-
-pub fn say_kind<W: Write>(out: &mut W, kind: u32, columns: usize) -> io::Result<()> {
-    match kind {
-        0 => say_in(out, b"note", columns)?,
-        1 => say_in(out, b"rest", columns)?,
-        2 => say_in(out, b"grace", columns)?,
-        3 => say_in(out, b"slashed grace", columns)?,
-        _ => say_in(out, b"whole-bar rest", columns)?,
+impl fmt::Display for Term<Edge> {
+    fn fmt<W: fmt::Write>(&self, f: &mut fmt::Formatter<W>) -> fmt::Result {
+        f.pad(match self.0 {
+            Edge::Plain => "plain",
+            Edge::Double => "double",
+            Edge::RepeatStart => "repeat starts",
+            Edge::RepeatEnd => "repeat ends",
+        })
     }
-    Ok(())
 }
 
-// A clef by its number, 0 none.
-pub fn say_clef<W: Write>(out: &mut W, clef: u32, columns: usize) -> io::Result<()> {
-    match clef {
-        0 => say_in(out, b"-", columns)?,
-        1 => say_in(out, b"treble", columns)?,
-        2 => say_in(out, b"treble 8vb", columns)?,
-        3 => say_in(out, b"bass", columns)?,
-        4 => say_in(out, b"soprano", columns)?,
-        5 => say_in(out, b"mezzosoprano", columns)?,
-        6 => say_in(out, b"alto", columns)?,
-        7 => say_in(out, b"tenor", columns)?,
-        _ => say_in(out, b"baritone", columns)?,
+/// A meter, with its symbol.
+impl fmt::Display for Term<Meter> {
+    fn fmt<W: fmt::Write>(&self, f: &mut fmt::Formatter<W>) -> fmt::Result {
+        let numerator = self.0.numerator;
+        let denominator = self.0.denominator;
+        write!(f, "{numerator}/{denominator}")?;
+        f.write_str(match self.0.symbol {
+            None => "",
+            Some(Symbol::Common) => " common",
+            Some(Symbol::Cut) => " cut",
+        })
     }
-    Ok(())
 }
 
-// A key of flats by its fifths.
-fn say_flats<W: Write>(out: &mut W, fifths: i32, columns: usize) -> io::Result<()> {
-    match fifths {
-        -1 => say_in(out, b"1 flat", columns)?,
-        -2 => say_in(out, b"2 flats", columns)?,
-        -3 => say_in(out, b"3 flats", columns)?,
-        -4 => say_in(out, b"4 flats", columns)?,
-        -5 => say_in(out, b"5 flats", columns)?,
-        -6 => say_in(out, b"6 flats", columns)?,
-        _ => say_in(out, b"7 flats", columns)?,
+/// An alteration, -2 to 2, as the sign behind its letter.
+#[derive(Clone, Copy)]
+pub struct Sign(pub i8);
+
+impl fmt::Display for Sign {
+    fn fmt<W: fmt::Write>(&self, f: &mut fmt::Formatter<W>) -> fmt::Result {
+        f.write_str(match self.0 {
+            2 => "##",
+            1 => "#",
+            -1 => "b",
+            -2 => "bb",
+            _ => "",
+        })
     }
-    Ok(())
 }
 
-// A key by its fifths.
-pub fn say_fifths<W: Write>(out: &mut W, fifths: i32, columns: usize) -> io::Result<()> {
-    match fifths {
-        0 => say_in(out, b"no signs", columns)?,
-        1 => say_in(out, b"1 sharp", columns)?,
-        2 => say_in(out, b"2 sharps", columns)?,
-        3 => say_in(out, b"3 sharps", columns)?,
-        4 => say_in(out, b"4 sharps", columns)?,
-        5 => say_in(out, b"5 sharps", columns)?,
-        6 => say_in(out, b"6 sharps", columns)?,
-        7 => say_in(out, b"7 sharps", columns)?,
-        _ => say_flats(out, fifths, columns)?,
+/// An alteration, -2 to 2, in words.
+#[derive(Clone, Copy)]
+pub struct Alteration(pub i8);
+
+impl fmt::Display for Alteration {
+    fn fmt<W: fmt::Write>(&self, f: &mut fmt::Formatter<W>) -> fmt::Result {
+        f.write_str(match self.0 {
+            2 => "double sharp",
+            1 => "sharp",
+            -1 => "flat",
+            -2 => "double flat",
+            _ => "natural",
+        })
     }
-    Ok(())
 }
 
-// So many of what the words name, in the singular.
-pub fn say_counted<W: Write>(out: &mut W, count: u64, words: &[u8]) -> io::Result<()> {
-    say_number(out, count)?;
-    put(out, b' ')?;
-    say(out, words)?;
-    if count != 1 {
-        put(out, b's')?;
+/// A pitch: letter, sign, octave.
+impl fmt::Display for Term<Pitch> {
+    fn fmt<W: fmt::Write>(&self, f: &mut fmt::Formatter<W>) -> fmt::Result {
+        let step = Term(self.0.step);
+        let sign = Sign(self.0.alter);
+        let octave = self.0.octave.number;
+        write!(f, "{step}{sign}{octave}")
     }
-    Ok(())
 }
 
-// How a meter is drawn.
-pub fn say_symbol<W: Write>(out: &mut W, symbol: u32) -> io::Result<()> {
-    match symbol {
-        0 => {}
-        1 => say(out, b" common")?,
-        _ => say(out, b" cut")?,
+/// The dots of a length, a space before them.
+#[derive(Clone, Copy)]
+pub struct Dots(pub u8);
+
+impl fmt::Display for Dots {
+    fn fmt<W: fmt::Write>(&self, f: &mut fmt::Formatter<W>) -> fmt::Result {
+        f.pad(match self.0 {
+            0 => "",
+            1 => " .",
+            2 => " ..",
+            _ => " ...",
+        })
     }
-    Ok(())
 }
 
-// A meter, with its symbol.
-pub fn say_meter<W: Write>(
-    out: &mut W,
-    numerator: u32,
-    denominator: u32,
-    symbol: u32,
-) -> io::Result<()> {
-    say_number(out, numerator as u64)?;
-    put(out, b'/')?;
-    say_number(out, denominator as u64)?;
-    say_symbol(out, symbol)
-}
+/// A key signature, by its fifths.
+#[derive(Clone, Copy)]
+pub struct Signature(pub i8);
 
-// The left or right of a bar.
-pub fn say_side<W: Write>(out: &mut W, side: u32, columns: usize) -> io::Result<()> {
-    match side {
-        0 => say_in(out, b"plain", columns)?,
-        1 => say_in(out, b"double", columns)?,
-        2 => say_in(out, b"repeat starts", columns)?,
-        _ => say_in(out, b"repeat ends", columns)?,
+impl fmt::Display for Signature {
+    fn fmt<W: fmt::Write>(&self, f: &mut fmt::Formatter<W>) -> fmt::Result {
+        f.pad(match self.0 {
+            0 => "no signs",
+            1 => "1 sharp",
+            2 => "2 sharps",
+            3 => "3 sharps",
+            4 => "4 sharps",
+            5 => "5 sharps",
+            6 => "6 sharps",
+            7 => "7 sharps",
+            -1 => "1 flat",
+            -2 => "2 flats",
+            -3 => "3 flats",
+            -4 => "4 flats",
+            -5 => "5 flats",
+            -6 => "6 flats",
+            _ => "7 flats",
+        })
     }
-    Ok(())
 }
 
-// A place of the data.
-pub fn say_place<W: Write>(out: &mut W, place: usize) -> io::Result<()> {
-    say(out, b"place ")?;
-    say_number(out, place as u64)
+/// So many of what a word names in the singular.
+#[derive(Clone, Copy)]
+pub struct Counted<'w>(pub u32, pub &'w str);
+
+impl<'w> fmt::Display for Counted<'w> {
+    fn fmt<W: fmt::Write>(&self, f: &mut fmt::Formatter<W>) -> fmt::Result {
+        let count = self.0;
+        let word = self.1;
+        let plural = if count == 1 { "" } else { "s" };
+        write!(f, "{count} {word}{plural}")
+    }
 }

@@ -3,4 +3,4 @@
 
 pub mod bars; // bars.rt: the fourth layer
 pub mod notes; // notes.rt: the third layer
-mod same; // same.rt: rows that stand for several records
+mod table; // table.rt: rows of records, where one may stand for several

@@ -1,316 +1,193 @@
 // The third layer: the notes, a row for each record; whole-bar rests that follow each other alike share one.
-ghost use Rattle.std.specs.Prelude.{◌<◌, IfOk};
-ghost use Rattle.rules.specs.Limits.{note_size};
-
-use super::same::show_same;
-use marks::cells::{note_word, pitch_word};
-use marks::table::{mark_at, start_of};
-use records::cells::natural;
-use records::note::{
-    ACTUAL, BEAM, DOTS, DURATION, KIND, MARK_COUNT, MARKS, NORMAL, PITCH_COUNT, PLACE, TIES,
-};
-use rows::row::{end_row, number_in, put, say, say_heading, say_number, say_row, spaces};
-use rows::terms::{say_dots, say_duration, say_kind, say_pitch};
-use show::byte_at;
-use std::io;
+use crate::table::{Table, show_rows};
+use marks::lookback::Marks;
+use marks::records::{Beam, Note, NoteMark, Notes};
+use rows::columns::Columns;
+use rows::headings::show_heading;
+use rows::terms::{Dots, Term};
+use std::alloc::Global;
 use std::io::Write;
+use std::{fmt, io};
+use stores::note::{BAR_NUMBER, NoteKind};
+use tokens::kinds::{Figure, Token};
+use tokens::rhythm::Length;
 
-// The kind of a whole-bar rest.
-pub(crate) const WHOLE_BAR_REST: u32 = 4;
-
-// Where a pitch's words stand.
-const STEP: usize = 1;
-
-const OCTAVE: usize = 2;
-
-const ALTER: usize = 3;
-
-// Kinds, durations, whole lengths and pitches take so many columns.
-const KINDS: usize = 16;
-
-const DURATIONS: usize = 7;
-
+// Lengths and pitches take so many columns.
 const LENGTHS: usize = 13;
 
 const PITCHES: usize = 15;
 
-// ---- lengths and pitches
+/// A duration and its dots; none of a whole-bar rest.
+#[derive(Clone, Copy)]
+struct NoteLength(Option<Length>);
 
-// The duration and the dots; a whole-bar rest has none. `columns` are 0 where nothing follows.
-fn say_note_length<W: Write>(
-    out: &mut W,
-    notes: &[i32],
-    number: u32,
-    columns: usize,
-) -> io::Result<()> {
-    if note_word(notes, number, KIND) == WHOLE_BAR_REST {
-        spaces(out, 0, columns)?;
-        return Ok(());
-    }
-    let duration = note_word(notes, number, DURATION);
-    let dots = note_word(notes, number, DOTS);
-    if dots == 0 {
-        say_duration(out, duration, columns)?;
-        return Ok(());
-    }
-    say_duration(out, duration, DURATIONS)?;
-    if DURATIONS < columns {
-        say_dots(out, dots, columns - DURATIONS)?;
-    } else {
-        say_dots(out, dots, 0)?;
-    }
-    Ok(())
-}
-
-// How many columns a pitch takes.
-fn pitch_columns(alter: i32) -> usize
-    ensures { result < 5 }
-{
-    match alter {
-        0 => 2,
-        1 => 3,
-        -1 => 3,
-        _ => 4,
+impl fmt::Display for NoteLength {
+    fn fmt<W: fmt::Write>(&self, f: &mut fmt::Formatter<W>) -> fmt::Result {
+        let Some(length) = self.0 else {
+            return Ok(());
+        };
+        let duration = Term(length.duration);
+        let dots = Dots(length.dots);
+        write!(f, "{duration:<7}{dots}")
     }
 }
 
-// The space before a pitch that is not the first; how many columns it takes.
-fn say_gap<W: Write>(out: &mut W, which: u32) -> io::Result<usize>
-    ensures { IfOk result (λ columns. columns < 2) }
-{
-    if which == 0 {
-        return Ok(0);
-    }
-    put(out, b' ')?;
-    Ok(1)
-}
+/// The pitches of a note, a space between two.
+#[derive(Clone, Copy)]
+struct Pitches<'a>(Note<'a>);
 
-fn say_pitch_of<W: Write>(out: &mut W, notes: &[i32], number: u32, which: u32) -> io::Result<()> {
-    say_pitch(
-        out,
-        natural(pitch_word(notes, number, which, STEP)),
-        pitch_word(notes, number, which, ALTER),
-        natural(pitch_word(notes, number, which, OCTAVE)),
-    )
-}
-
-// The pitches, a space between two; how many columns they take.
-fn say_pitches<W: Write>(out: &mut W, notes: &[i32], number: u32) -> io::Result<usize> {
-    let count = note_word(notes, number, PITCH_COUNT);
-    let mut columns = 0;
-    let mut i: u32 = 0;
-    while i < count {
-        columns += say_gap(out, i)?;
-        say_pitch_of(out, notes, number, i)?;
-        columns += pitch_columns(pitch_word(notes, number, i, ALTER));
-        i += 1;
-    }
-    Ok(columns)
-}
-
-// ---- notations, separated by commas; `said`: one stands before
-
-fn say_also<W: Write>(out: &mut W, said: bool, words: &[u8]) -> io::Result<()> {
-    if said {
-        say(out, b", ")?;
-    }
-    say(out, words)
-}
-
-fn say_ties<W: Write>(out: &mut W, ties: u32) -> io::Result<bool> {
-    Ok(match ties {
-        0 => false,
-        1 => {
-            say(out, b"tie starts")?;
-            true
+impl<'a> fmt::Display for Pitches<'a> {
+    fn fmt<W: fmt::Write>(&self, f: &mut fmt::Formatter<W>) -> fmt::Result {
+        let mut space = "";
+        for which in 0..self.0.pitch_count() {
+            if let Some(pitch) = self.0.pitch(which) {
+                let pitch = Term(pitch);
+                write!(f, "{space}{pitch}")?;
+                space = " ";
+            }
         }
-        2 => {
-            say(out, b"tie ends")?;
-            true
-        }
-        _ => {
-            say(out, b"tie ends and starts")?;
-            true
-        }
-    })
-}
-
-fn say_beam<W: Write>(out: &mut W, said: bool, beam: u32) -> io::Result<bool> {
-    Ok(match beam {
-        0 => said,
-        1 => {
-            say_also(out, said, b"beam starts")?;
-            true
-        }
-        2 => {
-            say_also(out, said, b"beam")?;
-            true
-        }
-        _ => {
-            say_also(out, said, b"beam ends")?;
-            true
-        }
-    })
-}
-
-fn say_tuplet<W: Write>(out: &mut W, said: bool, actual: u32, normal: u32) -> io::Result<bool> {
-    if actual == 0 {
-        return Ok(said);
+        Ok(())
     }
-    say_also(out, said, b"tuplet ")?;
-    say_number(out, actual as u64)?;
-    put(out, b':')?;
-    say_number(out, normal as u64)?;
-    Ok(true)
 }
 
-fn say_mark<W: Write>(out: &mut W, said: bool, trill: bool) -> io::Result<()> {
-    if trill {
-        say_also(out, said, b"trill")?;
-    } else {
-        say_also(out, said, b"fermata")?;
+// ---- notations
+
+fn tie(note: Note<'_>) -> Option<&'static str> {
+    match (note.tie_ends(), note.tie_starts()) {
+        (true, true) => Some("tie ends and starts"),
+        (true, false) => Some("tie ends"),
+        (false, true) => Some("tie starts"),
+        (false, false) => None,
     }
-    Ok(())
 }
 
-// The marks in order of arrival, the lowest bit first.
-fn say_marks<W: Write>(out: &mut W, said: bool, count: u32, marks: u32) -> io::Result<bool> {
-    let mut any = said;
-    let mut left = marks;
-    let mut i: u32 = 0;
-    while i < count {
-        say_mark(out, any, left % 2 == 1)?;
-        any = true;
-        left = left / 2;
-        i += 1;
+fn beam(note: Note<'_>) -> Option<&'static str> {
+    match note.beam()? {
+        Beam::Start => Some("beam starts"),
+        Beam::Inside => Some("beam"),
+        Beam::End => Some("beam ends"),
     }
-    Ok(any)
 }
 
-// Whether a mark with this first byte is an `f` or an `i`, which copy.
-fn copies(first: u8) -> bool {
-    (first == b'f') | (first == b'i')
-}
-
-fn say_notations<W: Write>(out: &mut W, notes: &[i32], number: u32, first: u8) -> io::Result<()> {
-    let mut said = say_ties(out, note_word(notes, number, TIES))?;
-    said = say_beam(out, said, note_word(notes, number, BEAM))?;
-    said = say_tuplet(
-        out,
-        said,
-        note_word(notes, number, ACTUAL),
-        note_word(notes, number, NORMAL),
-    )?;
-    said = say_marks(
-        out,
-        said,
-        note_word(notes, number, MARK_COUNT),
-        note_word(notes, number, MARKS),
-    )?;
-    if copies(first) {
-        say_also(out, said, b"copy")?;
+fn mark(mark: NoteMark) -> &'static str {
+    match mark {
+        NoteMark::Fermata => "fermata",
+        NoteMark::Trill => "trill",
     }
-    Ok(())
 }
 
-fn has_notations(notes: &[i32], number: u32, first: u8) -> bool {
-    (note_word(notes, number, TIES) != 0)
-        | (note_word(notes, number, BEAM) != 0)
-        | (note_word(notes, number, ACTUAL) != 0)
-        | (note_word(notes, number, MARK_COUNT) != 0)
-        | copies(first)
+/// The notations of a note, and whether it was copied, a comma between two.
+#[derive(Clone, Copy)]
+struct Notations<'a> {
+    note: Note<'a>,
+    copied: bool,
+}
+
+impl<'a> fmt::Display for Notations<'a> {
+    fn fmt<W: fmt::Write>(&self, f: &mut fmt::Formatter<W>) -> fmt::Result {
+        let mut comma = "";
+        if let Some(tie) = tie(self.note) {
+            f.write_str(tie)?;
+            comma = ", ";
+        }
+        if let Some(beam) = beam(self.note) {
+            write!(f, "{comma}{beam}")?;
+            comma = ", ";
+        }
+        if let Some(tuplet) = self.note.tuplet() {
+            let actual = tuplet.actual;
+            let normal = tuplet.normal;
+            write!(f, "{comma}tuplet {actual}:{normal}")?;
+            comma = ", ";
+        }
+        for which in 0..self.note.mark_count() {
+            let mark = mark(self.note.mark(which));
+            write!(f, "{comma}{mark}")?;
+            comma = ", ";
+        }
+        if self.copied {
+            write!(f, "{comma}copy")?;
+        }
+        Ok(())
+    }
 }
 
 // ---- rows
 
-// A rest behind which nothing stands.
-fn say_bare<W: Write>(out: &mut W, notes: &[i32], number: u32) -> io::Result<()> {
-    let kind = note_word(notes, number, KIND);
-    if kind == WHOLE_BAR_REST {
-        say_kind(out, kind, 0)?;
-        return Ok(());
-    }
-    say_kind(out, kind, KINDS)?;
-    say_note_length(out, notes, number, 0)
+/// The notes with the marks that stored them.
+#[derive(Clone, Copy)]
+struct NoteTable<'a, 'd> {
+    alloc: Global,
+    notes: Notes<'a>,
+    marks: &'a Marks<'d>,
 }
 
-// A row for a record; its mark has this first byte.
-fn show_note<W: Write>(out: &mut W, notes: &[i32], number: u32, first: u8) -> io::Result<()> {
-    number_in(out, number as u64 + 1, 6)?;
-    number_in(out, note_word(notes, number, PLACE) as u64, 8)?;
-    say(out, b"  ")?;
-    let noted = has_notations(notes, number, first);
-    if noted | (0 < note_word(notes, number, PITCH_COUNT)) {
-        say_kind(out, note_word(notes, number, KIND), KINDS)?;
-        say_note_length(out, notes, number, LENGTHS)?;
-    } else {
-        say_bare(out, notes, number)?;
-    }
-    let columns = say_pitches(out, notes, number)?;
-    if noted {
-        spaces(out, columns, PITCHES)?;
-        put(out, b' ')?;
-        say_notations(out, notes, number, first)?;
-    }
-    end_row(out)
-}
-
-// Whether a record has the same word as the one before it.
-fn same_word(notes: &[i32], number: u32, at: usize) -> bool
-    requires { at < note_size }
-{
-    if number == 0 {
-        return false;
-    }
-    note_word(notes, number, at) == note_word(notes, number - 1, at)
-}
-
-// Whether a record is a whole-bar rest like the one before it, bars apart.
-fn is_same(notes: &[i32], number: u32) -> bool {
-    (note_word(notes, number, KIND) == WHOLE_BAR_REST)
-        & same_word(notes, number, KIND)
-        & same_word(notes, number, PLACE)
-        & same_word(notes, number, TIES)
-        & same_word(notes, number, BEAM)
-        & same_word(notes, number, ACTUAL)
-        & same_word(notes, number, MARK_COUNT)
-        & same_word(notes, number, MARKS)
-}
-
-// The first record from `from` on, of so many, that is not like the one before it.
-fn same_end(notes: &[i32], from: u32, count: u32) -> u32 {
-    let mut number = from;
-    while number < count {
-        if !is_same(notes, number) {
-            return number;
+impl<'a, 'd> NoteTable<'a, 'd> {
+    /// Whether an `f` or an `i` copied the note.
+    fn is_copied(&self, note: Note<'a>) -> bool {
+        match self.marks.at(note.place()) {
+            Some(mark) => matches!(mark.token, Token::Figure(Figure::Repeat | Figure::Bar)),
+            None => false,
         }
-        number += 1;
     }
-    number
 }
 
-// The third layer. Records and marks stand in the order of their places.
+impl<'a, 'd> Table for NoteTable<'a, 'd> {
+    fn len(&self) -> usize {
+        self.notes.len()
+    }
+
+    fn show<W: Write>(&self, out: &mut W, number: usize) -> io::Result<()> {
+        let Some(note) = self.notes.get(number) else {
+            return Ok(());
+        };
+        let number = number.saturating_add(1);
+        let place = note.place().0;
+        let kind = Term(note.kind());
+        let length = Columns(NoteLength(note.length()), LENGTHS);
+        let pitches = Columns(Pitches(note), PITCHES);
+        let notations = Notations {
+            note,
+            copied: self.is_copied(note),
+        };
+        let alloc = self.alloc;
+        let row = format!(in alloc;
+            "{number:>6}{place:>8}  {kind:<16}{length}{pitches} {notations}"
+        )?;
+        let row = row.trim_end();
+        writeln!(out, "{row}")
+    }
+
+    /// Whole-bar rests are alike, where all that they have but their bar is the same.
+    fn are_alike(&self, number: usize, other: usize) -> bool {
+        if let Some(note) = self.notes.get(number)
+            && let Some(other) = self.notes.get(other)
+        {
+            let words = note.0;
+            let others = other.0;
+            note.kind() == NoteKind::WholeBarRest && words[..BAR_NUMBER] == others[..BAR_NUMBER]
+        } else {
+            false
+        }
+    }
+}
+
+/// The third layer. Records and marks stand in the order of their places.
 pub fn show_notes<W: Write>(
     out: &mut W,
-    notes: &[i32],
-    count: u32,
-    data: &[u8],
-    table: &[usize],
-    marks: usize,
+    alloc: Global,
+    notes: Notes<'_>,
+    marks: &Marks<'_>,
 ) -> io::Result<()> {
-    say_heading(out, b"3. The notes")?;
-    say_row(
+    show_heading(out, "3. The notes")?;
+    writeln!(
         out,
-        b"   no.   place  kind            length       pitches         notations",
+        "   no.   place  kind            length       pitches         notations"
     )?;
-    let mut k = 1;
-    let mut number: u32 = 0;
-    while number < count {
-        k = mark_at(table, k, marks, note_word(notes, number, PLACE) as usize);
-        show_note(out, notes, number, byte_at(data, start_of(table, k)))?;
-        let next = number + 1;
-        let end = same_end(notes, next, count);
-        number = show_same(out, next, end, b": the same")?;
-    }
-    Ok(())
+    let table = NoteTable {
+        alloc,
+        notes,
+        marks,
+    };
+    show_rows(out, &table, "the same")
 }

@@ -2,63 +2,47 @@
 // which readings don't come back from their cards. README.md has the list's format.
 #![tactic(auto)]
 
-ghost use Rattle.std.specs.Prelude.{◌≡◌, ◌≤◌, length};
+ghost use Rattle.std.specs.Prelude.{◌<◌};
 
-use ending::Reading;
-use limits::Pae;
+mod answer; // answer.rt: an answer of the list, compared with a reading
+
+use answer::{Answer, DIAGNOSTIC, Differs};
 use pae::{pae_read_card, pae_write_card};
 use reading::read::read;
-use records::cells::{BAR, DIAGNOSTIC, FIRST_PITCH, NOTE, PITCH, clear, natural};
-use records::note::PITCH_COUNT;
-use show::{byte_at, magnitude, read_full, word_at};
+use records::cells::clear;
+use std::alloc::Global;
 use std::io;
-use std::io::Write;
+use std::io::{Read, Write};
+use stores::cells::{BAR, NOTE};
+use stores::diagnostic::MAX_DIAGNOSTICS;
 
-// The list has at most so many bytes.
+/// The list has at most so many bytes.
 const LIST: usize = 1048576;
 
-// A text has at most so many bytes.
-const TEXT: usize = Pae::MAX_INPUT_BYTES;
-
-// Lent for every text: 1,024 notes, 512 bars, 512 notes of a figure, 1,024 diagnostics.
+/// Lent for every text: 1,024 notes, 512 bars, 512 notes of a figure, 1,024 diagnostics.
 const NOTES: usize = 1024 * NOTE;
 
 const BARS: usize = 512 * BAR;
 
 const FIGURE: usize = 512 * NOTE;
 
-const CELLS: usize = Pae::MAX_DIAGNOSTICS;
+const DIAGNOSTICS: usize = MAX_DIAGNOSTICS * DIAGNOSTIC;
 
-const SCRATCH: usize = CELLS * DIAGNOSTIC;
-
-// Lent for a card: more than those records take.
+/// Lent for a card: more than those records take.
 const CARD: usize = 65536;
 
-// A text of the list without its escapes, and where its answer begins.
+/// How many records and diagnostics a reading has.
 #[derive(Clone, Copy)]
-struct Entry {
-    size: usize,
-    answer: usize,
+struct Counts {
+    notes: u32,
+    bars: u32,
+    diagnostics: u32,
 }
 
-// A number of the list, and where it ends.
-#[derive(Clone, Copy)]
-struct Number {
-    value: u32,
-    end: usize,
-}
-
-// How far an answer is compared, and whether all of it is the same.
-#[derive(Clone, Copy)]
-struct Compared {
-    at: usize,
-    same: bool,
-}
-
-// Where the next text stands, and what is counted so far.
+/// How many texts there are, how many of them are read otherwise and are refused, how many readings come back from their cards, and what
+/// the readings hold.
 #[derive(Clone, Copy)]
 struct Tally {
-    at: usize,
     texts: u64,
     differ: u64,
     refused: u64,
@@ -68,479 +52,223 @@ struct Tally {
     diagnostics: u64,
 }
 
-// ---- the list
+// ---- a text of the list
 
-fn after(list: &[u8], i: usize) -> usize {
-    if i < list.len() {
-        return i + 1;
-    }
-    i
+/// The byte of three octal digits.
+fn octal(first: u8, second: u8, third: u8) -> u8 {
+    ((first & 7) << 6) | ((second & 7) << 3) | (third & 7)
 }
 
-// Where the line ends.
-fn line_end(list: &[u8], i: usize) -> usize {
-    if i < list.len() {
-        return text::line_end(list, i);
-    }
-    i
-}
-
-// The byte that three octal digits give.
-fn octal(list: &[u8], i: usize) -> u8 {
-    let second = after(list, i);
-    let third = after(list, second);
-    ((byte_at(list, i) & 7) << 6) | ((byte_at(list, second) & 7) << 3) | (byte_at(list, third) & 7)
-}
-
-// The byte of a text that stands at `i`: itself, or a `\` and three octal digits.
-fn unescaped(list: &[u8], i: usize) -> u8 {
-    let b = byte_at(list, i);
-    if b == b'\\' {
-        return octal(list, after(list, i));
-    }
-    b
-}
-
-fn after_escape(list: &[u8], i: usize) -> usize {
-    let next = after(list, i);
-    if byte_at(list, i) == b'\\' {
-        return after(list, after(list, after(list, next)));
-    }
-    next
-}
-
-// The text from `start` to a tab.
-fn unescape(list: &[u8], start: usize, text: &mut [u8]) -> Entry
-    ensures { result.size ≤ length text.new }
-{
-    let mut size = 0;
-    let mut i = start;
-    while size < text.len() {
-        if byte_at(list, i) == b'\t' {
-            break;
+/// A text of the list without its escapes: a `\` with three octal digits is one byte.
+fn unescape(alloc: Global, escaped: &[u8]) -> io::Result<Vec<u8>> {
+    let mut text = Vec::new(alloc);
+    for (backslashes, part) in escaped.split(|byte| *byte == b'\\').enumerate() {
+        match part {
+            [first, second, third, rest @ ..] if 0 < backslashes => {
+                text.push(octal(*first, *second, *third))?;
+                text.extend_from_slice(rest)?;
+            }
+            _ => text.extend_from_slice(part)?,
         }
-        text[size] = unescaped(list, i);
-        i = after_escape(list, i);
-        size += 1;
     }
-    Entry {
-        size,
-        answer: after(list, i),
+    Ok(text)
+}
+
+/// A line of the list in two: a text and, behind a tab, its answer.
+fn split_line(line: &[u8]) -> (&[u8], &[u8]) {
+    match line.iter().position(|byte| *byte == b'\t') {
+        Some(tab) => (
+            line.get(..tab).unwrap_or(line),
+            line.get(tab.saturating_add(1)..).unwrap_or(b""),
+        ),
+        None => (line, b""),
     }
 }
 
-// A number with one decimal digit more; one with more than eight digits stays, and a byte below the digits makes none.
-fn with_digit(value: u32, digit: u8) -> u32 {
-    if value > 99999999 {
-        return value;
-    }
-    if digit < b'0' {
-        return u32::MAX;
-    }
-    value * 10 + (digit - b'0') as u32
-}
+// ---- a reading
 
-// The digits up to a `>`.
-fn long_number(list: &[u8], start: usize) -> Number {
-    let mut value: u32 = 0;
-    let mut i = start;
-    while i < list.len() {
-        let b = list[i];
-        if b == b'>' {
-            break;
-        }
-        value = with_digit(value, b);
-        i += 1;
-    }
-    Number {
-        value,
-        end: after(list, i),
-    }
-}
-
-// A digit, or more of them between `<` and `>`.
-fn number_at(list: &[u8], i: usize) -> Number {
-    let b = byte_at(list, i);
-    let next = after(list, i);
-    if b == b'<' {
-        return long_number(list, next);
-    }
-    Number {
-        value: with_digit(0, b),
-        end: next,
-    }
-}
-
-// ---- an answer compared
-
-fn same_byte(list: &[u8], c: Compared, b: u8) -> Compared {
-    Compared {
-        at: after(list, c.at),
-        same: c.same & (byte_at(list, c.at) == b),
-    }
-}
-
-fn same_number(list: &[u8], c: Compared, value: u32) -> Compared {
-    let expected = number_at(list, c.at);
-    Compared {
-        at: expected.end,
-        same: c.same & (expected.value == value),
-    }
-}
-
-// A word below 0 has a `-` before it.
-fn same_word(list: &[u8], c: Compared, word: i32) -> Compared {
-    if word < 0 {
-        let signed = same_byte(list, c, b'-');
-        return same_number(list, signed, magnitude(word));
-    }
-    same_number(list, c, magnitude(word))
-}
-
-// The words from `start` up to `end`.
-fn same_words(list: &[u8], c: Compared, words: &[i32], start: usize, end: usize) -> Compared {
-    let mut next = c;
-    let mut i = start;
-    while i < end {
-        next = same_word(list, next, word_at(words, i));
-        i += 1;
-    }
-    next
-}
-
-// A pitch without its place.
-fn same_pitch(list: &[u8], c: Compared, notes: &[i32], note: u32, pitch: u32) -> Compared {
-    let start = note as usize * NOTE + FIRST_PITCH + pitch as usize * PITCH;
-    same_words(list, c, notes, start + 1, start + PITCH)
-}
-
-fn same_pitches(list: &[u8], c: Compared, notes: &[i32], note: u32, count: u32) -> Compared {
-    let mut next = c;
-    let mut i: u32 = 0;
-    while i < count {
-        next = same_pitch(list, next, notes, note, i);
-        i += 1;
-    }
-    next
-}
-
-// A note without its place.
-fn same_note(list: &[u8], c: Compared, notes: &[i32], note: u32) -> Compared {
-    let start = note as usize * NOTE;
-    let marked = same_byte(list, c, b'N');
-    let headed = same_words(list, marked, notes, start + 1, start + FIRST_PITCH);
-    let pitches = natural(word_at(notes, start + PITCH_COUNT));
-    same_pitches(list, headed, notes, note, pitches)
-}
-
-fn same_notes(list: &[u8], c: Compared, notes: &[i32], count: u32) -> Compared {
-    let mut next = c;
-    let mut i: u32 = 0;
-    while i < count {
-        next = same_note(list, next, notes, i);
-        i += 1;
-    }
-    next
-}
-
-fn same_bar(list: &[u8], c: Compared, bars: &[i32], bar: u32) -> Compared {
-    let start = bar as usize * BAR;
-    let marked = same_byte(list, c, b'B');
-    same_words(list, marked, bars, start, start + BAR)
-}
-
-fn same_bars(list: &[u8], c: Compared, bars: &[i32], count: u32) -> Compared {
-    let mut next = c;
-    let mut i: u32 = 0;
-    while i < count {
-        next = same_bar(list, next, bars, i);
-        i += 1;
-    }
-    next
-}
-
-fn same_escaped(list: &[u8], c: Compared, b: u8) -> Compared {
-    Compared {
-        at: after_escape(list, c.at),
-        same: c.same & (unescaped(list, c.at) == b),
-    }
-}
-
-// The part of the text that a diagnostic names, then a tab.
-fn same_part(list: &[u8], c: Compared, text: &[u8], start: u32, end: u32) -> Compared {
-    let mut next = c;
-    let mut i = start;
-    while i < end {
-        next = same_escaped(list, next, byte_at(text, i as usize));
-        i += 1;
-    }
-    same_byte(list, next, b'\t')
-}
-
-// Its value, if it is a part of the text (value kind 1), is compared by its bytes.
-fn same_diagnostic(list: &[u8], c: Compared, text: &[u8], found: &[i32], number: u32) -> Compared {
-    let start = number as usize * DIAGNOSTIC;
-    let marked = same_byte(list, c, b'D');
-    if word_at(found, start + 3) != 1 {
-        return same_words(list, marked, found, start, start + DIAGNOSTIC);
-    }
-    let placed = same_words(list, marked, found, start, start + 4);
-    let from = natural(word_at(found, start + 4));
-    let to = natural(word_at(found, start + 5));
-    same_part(list, placed, text, from, to)
-}
-
-fn same_diagnostics(list: &[u8], c: Compared, text: &[u8], found: &[i32], count: u32) -> Compared {
-    let mut next = c;
-    let mut i: u32 = 0;
-    while i < count {
-        next = same_diagnostic(list, next, text, found, i);
-        i += 1;
-    }
-    next
-}
-
-fn same_refusal(list: &[u8], c: Compared, number: u32) -> Compared {
-    if number == 0 {
-        return c;
-    }
-    let marked = same_byte(list, c, b'R');
-    same_number(list, marked, number)
-}
-
-// The whole answer, to the line's end.
-fn same_answer(
-    list: &[u8],
-    at: usize,
+/// Reads a text into what is lent; how much of it holds records and diagnostics, or the number of the refusal.
+fn read_text(
     text: &[u8],
-    r: Reading,
+    notes: &mut [i32],
+    bars: &mut [i32],
+    figure: &mut [i32],
+    diagnostics: &mut [i32],
+) -> Result<Counts, u32> {
+    clear(diagnostics);
+    let reading = read(text, notes, bars, figure, diagnostics, MAX_DIAGNOSTICS);
+    if reading.number != 0 {
+        return Err(reading.number);
+    }
+    Ok(Counts {
+        notes: reading.notes,
+        bars: reading.bars,
+        diagnostics: reading.diagnostics,
+    })
+}
+
+/// The first records of words, so many.
+fn first_records<const N: usize>(words: &[i32], count: u32) -> &[[i32; N]]
+    requires { 0 < N }
+{
+    let (records, _) = words.as_chunks::<N>();
+    records.get(..count as usize).unwrap_or(records)
+}
+
+/// Whether the answer is what came of a text.
+fn compare(
+    answer: &[u8],
+    text: &[u8],
+    outcome: Result<Counts, u32>,
     notes: &[i32],
     bars: &[i32],
-    found: &[i32],
-) -> bool {
-    let start = Compared { at, same: true };
-    let refused = same_refusal(list, start, r.number);
-    let noted = same_notes(list, refused, notes, r.notes);
-    let barred = same_bars(list, noted, bars, r.bars);
-    let diagnosed = same_diagnostics(list, barred, text, found, r.diagnostics);
-    let ended = same_byte(list, diagnosed, b'\n');
-    ended.same
+    diagnostics: &[i32],
+) -> Result<(), Differs> {
+    let mut answer = Answer::new(answer);
+    match outcome {
+        Ok(counts) => {
+            answer.take_notes(first_records::<NOTE>(notes, counts.notes))?;
+            answer.take_bars(first_records::<BAR>(bars, counts.bars))?;
+            let diagnostics = first_records::<DIAGNOSTIC>(diagnostics, counts.diagnostics);
+            answer.take_diagnostics(diagnostics, text)?;
+        }
+        Err(number) => answer.take_refusal(number)?,
+    }
+    answer.end()
 }
 
 // ---- cards
 
-fn same_cells(cells: &[i32], others: &[i32]) -> bool {
-    if cells.len() != others.len() {
-        return false;
-    }
-    let mut i = 0;
-    while i < cells.len() {
-        if cells[i] != others[i] {
-            return false;
-        }
-        i += 1;
-    }
-    true
-}
-
-// Whether a card reads to these cells, the first `count` notes and `bar_count` bars being its records.
-fn reads_to(card: &[u8], notes: &[i32], bars: &[i32], count: u32, bar_count: u32) -> bool {
+/// Whether a card reads to these cells, of which the first hold so many records.
+fn reads_to(card: &[u8], counts: Counts, notes: &[i32], bars: &[i32]) -> bool {
     let mut own_notes = [0i32; NOTES];
     let mut own_bars = [0i32; BARS];
-    let r = pae_read_card(card, &mut own_notes, &mut own_bars);
-    (r.number == 0)
-        & (r.notes == count)
-        & (r.bars == bar_count)
-        & same_cells(notes, &own_notes)
-        & same_cells(bars, &own_bars)
+    let read = pae_read_card(card, &mut own_notes, &mut own_bars);
+    read.number == 0
+        && read.notes == counts.notes
+        && read.bars == counts.bars
+        && notes[..] == own_notes[..]
+        && bars[..] == own_bars[..]
 }
 
-// Whether the records of a reading come back from their card.
-fn comes_back(notes: &[i32], bars: &[i32], count: u32, bar_count: u32) -> bool {
-    let words = count as usize * NOTE;
-    let bar_words = bar_count as usize * BAR;
-    if notes.len() < words {
-        return false;
+/// Whether the records of a reading come back from their card.
+fn comes_back(counts: Counts, notes: &[i32], bars: &[i32]) -> bool {
+    let words = notes.get(..counts.notes as usize * NOTE);
+    let bar_words = bars.get(..counts.bars as usize * BAR);
+    if let Some(words) = words
+        && let Some(bar_words) = bar_words
+    {
+        let mut card = [0u8; CARD];
+        let written = pae_write_card(words, bar_words, &mut card);
+        match card.get(..written.length as usize) {
+            Some(card) => written.number == 0 && reads_to(card, counts, notes, bars),
+            None => false,
+        }
+    } else {
+        false
     }
-    if bars.len() < bar_words {
-        return false;
-    }
-    let mut card = [0u8; CARD];
-    let w = pae_write_card(&notes[..words], &bars[..bar_words], &mut card);
-    let size = w.length as usize;
-    if w.number != 0 {
-        return false;
-    }
-    if CARD < size {
-        return false;
-    }
-    reads_to(&card[..size], notes, bars, count, bar_count)
-}
-
-// A reading that was refused has no card.
-fn has_card(r: Reading, notes: &[i32], bars: &[i32]) -> bool {
-    if r.number != 0 {
-        return false;
-    }
-    comes_back(notes, bars, r.notes, r.bars)
 }
 
 // ---- the list replayed
 
-// One more where it is so.
-fn one_more(count: u64, more: bool) -> u64 {
-    if more {
-        return count.wrapping_add(1);
+impl Tally {
+    fn new() -> Tally {
+        Tally {
+            texts: 0,
+            differ: 0,
+            refused: 0,
+            cards: 0,
+            notes: 0,
+            bars: 0,
+            diagnostics: 0,
+        }
     }
-    count
+
+    /// One more text that was read.
+    fn count(&mut self, outcome: Result<Counts, u32>, same: bool, card: bool) {
+        self.texts = self.texts.saturating_add(1);
+        self.differ = self.differ.saturating_add(u64::from(!same));
+        self.cards = self.cards.saturating_add(u64::from(card));
+        match outcome {
+            Ok(counts) => {
+                self.notes = self.notes.saturating_add(u64::from(counts.notes));
+                self.bars = self.bars.saturating_add(u64::from(counts.bars));
+                self.diagnostics = self
+                    .diagnostics
+                    .saturating_add(u64::from(counts.diagnostics));
+            }
+            Err(_) => self.refused = self.refused.saturating_add(1),
+        }
+    }
 }
 
-fn counted(tally: Tally, at: usize, same: bool, card: bool, r: Reading) -> Tally {
-    Tally {
-        at,
-        texts: one_more(tally.texts, true),
-        differ: one_more(tally.differ, !same),
-        refused: one_more(tally.refused, r.number != 0),
-        cards: one_more(tally.cards, card),
-        notes: tally.notes.wrapping_add(r.notes as u64),
-        bars: tally.bars.wrapping_add(r.bars as u64),
-        diagnostics: tally.diagnostics.wrapping_add(r.diagnostics as u64),
-    }
-}
-
-// A line of the list that is read otherwise.
-fn print_line<W: Write>(out: &mut W, list: &[u8], start: usize, end: usize) -> io::Result<()> {
-    if start > end {
-        return Ok(());
-    }
-    if end > list.len() {
-        return Ok(());
-    }
-    out.write_all(b"differs: ")?;
-    out.write_all(&list[start..end])?;
-    out.write_all(b"\n")
-}
-
-// A text read, its answer, which begins at `answer`, compared, and its card written and read.
-fn replay_text<W: Write>(
-    out: &mut W,
-    list: &[u8],
-    tally: Tally,
-    answer: usize,
-    text: &[u8],
-    notes: &mut [i32; NOTES],
-    bars: &mut [i32; BARS],
-    figure: &mut [i32; FIGURE],
-    found: &mut [i32; SCRATCH],
-) -> io::Result<Tally> {
-    clear(found);
-    let r = read(text, notes, bars, figure, found, CELLS);
-    let same = same_answer(list, answer, text, r, notes, bars, found);
-    let card = has_card(r, notes, bars);
-    let end = line_end(list, answer);
-    if !same {
-        print_line(out, list, tally.at, end)?;
-    }
-    Ok(counted(tally, after(list, end), same, card, r))
-}
-
-// The text at `tally.at`.
-fn replay_next<W: Write>(
-    out: &mut W,
-    list: &[u8],
-    tally: Tally,
-    text: &mut [u8],
-    notes: &mut [i32; NOTES],
-    bars: &mut [i32; BARS],
-    figure: &mut [i32; FIGURE],
-    found: &mut [i32; SCRATCH],
-) -> io::Result<Tally> {
-    let entry = unescape(list, tally.at, text);
-    let size = entry.size;
-    replay_text(
-        out,
-        list,
-        tally,
-        entry.answer,
-        &text[..size],
-        notes,
-        bars,
-        figure,
-        found,
-    )
-}
-
-// Every text takes a byte or more of the list, so that there are no more turns than bytes.
+/// Replays the lines of the list, each with a text and its answer.
 fn replay<W: Write>(
     out: &mut W,
+    alloc: Global,
     list: &[u8],
-    text: &mut [u8],
-    notes: &mut [i32; NOTES],
-    bars: &mut [i32; BARS],
-    figure: &mut [i32; FIGURE],
-    found: &mut [i32; SCRATCH],
+    notes: &mut [i32],
+    bars: &mut [i32],
+    figure: &mut [i32],
+    diagnostics: &mut [i32],
 ) -> io::Result<Tally> {
-    let mut tally = Tally {
-        at: 0,
-        texts: 0,
-        differ: 0,
-        refused: 0,
-        cards: 0,
-        notes: 0,
-        bars: 0,
-        diagnostics: 0,
-    };
-    let mut turns = list.len();
-    while turns > 0 {
-        if tally.at >= list.len() {
-            break;
+    let mut tally = Tally::new();
+    for line in list.split_inclusive(|byte| *byte == b'\n') {
+        let line = line.strip_suffix(b"\n").unwrap_or(line);
+        let (escaped, answer) = split_line(line);
+        let text = unescape(alloc, escaped)?;
+        let text = text.as_slice();
+        let outcome = read_text(text, notes, bars, figure, diagnostics);
+        let same = compare(answer, text, outcome, notes, bars, diagnostics).is_ok();
+        if !same {
+            out.write_all(b"differs: ")?;
+            out.write_all(line)?;
+            out.write_all(b"\n")?;
         }
-        tally = replay_next(out, list, tally, text, notes, bars, figure, found)?;
-        turns -= 1;
+        let card = match outcome {
+            Ok(counts) => comes_back(counts, notes, bars),
+            Err(_) => false,
+        };
+        tally.count(outcome, same, card);
     }
     Ok(tally)
 }
 
-// What is lent.
-fn replay_lent<W: Write>(out: &mut W, list: &[u8]) -> io::Result<Tally> {
-    let mut text = [0u8; TEXT];
+/// The same, with what is lent.
+fn replay_lent<W: Write>(out: &mut W, alloc: Global, list: &[u8]) -> io::Result<Tally> {
     let mut notes = [0i32; NOTES];
     let mut bars = [0i32; BARS];
     let mut figure = [0i32; FIGURE];
-    let mut found = [0i32; SCRATCH];
+    let mut diagnostics = [0i32; DIAGNOSTICS];
     replay(
         out,
+        alloc,
         list,
-        &mut text,
         &mut notes,
         &mut bars,
         &mut figure,
-        &mut found,
+        &mut diagnostics,
     )
 }
 
-fn print_count<W: Write>(out: &mut W, count: u64, of: &[u8]) -> io::Result<()> {
-    write!(out, "{}", count)?;
-    out.write_all(of)
-}
-
-// Room for the list. The `ensures` gives the length, which lending it asks for.
-fn room() -> [u8; LIST]
-    ensures { 1048576 ≡ length result }
-{
-    [0; LIST]
-}
-
 fn main(rt: HostRuntime) -> io::Result<()> {
-    let mut list = room();
-    let size = read_full(&mut rt.reader(), &mut list)?;
+    let alloc = rt.alloc();
+    let mut list = Vec::new(alloc);
+    rt.reader().take(LIST as u64).read_to_end(&mut list)?;
     let mut out = io::writer(&rt);
-    let tally = replay_lent(&mut out, &list[..size])?;
-    print_count(&mut out, tally.texts, b" texts, ")?;
-    print_count(&mut out, tally.differ, b" differ\n")?;
-    print_count(&mut out, tally.refused, b" refused\n")?;
-    print_count(&mut out, tally.cards, b" come back from their cards\n")?;
-    print_count(&mut out, tally.notes, b" notes\n")?;
-    print_count(&mut out, tally.bars, b" bars\n")?;
-    print_count(&mut out, tally.diagnostics, b" diagnostics\n")
+    let Tally {
+        texts,
+        differ,
+        refused,
+        cards,
+        notes,
+        bars,
+        diagnostics,
+    } = replay_lent(&mut out, alloc, list.as_slice())?;
+    writeln!(out, "{texts} texts, {differ} differ")?;
+    writeln!(out, "{refused} refused")?;
+    writeln!(out, "{cards} come back from their cards")?;
+    writeln!(out, "{notes} notes")?;
+    writeln!(out, "{bars} bars")?;
+    writeln!(out, "{diagnostics} diagnostics")
 }

@@ -1,2 +1,0 @@
-// The catalogue card as definitions, in specs/, with their laws in proofs/: no code.
-#![tactic(auto)]

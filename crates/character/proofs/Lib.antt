@@ -1,4 +1,0 @@
-pub mod FormLaws
-pub mod CharacterLaws
-pub mod TrimLaws
-pub mod Sets

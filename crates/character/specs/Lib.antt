@@ -1,3 +1,0 @@
-pub mod Blanks
-pub mod Last
-pub mod Tails

@@ -1,4 +1,0 @@
-pub mod TestLaws
-pub mod StoredLaws
-pub mod CheckLaws
-pub mod Sets

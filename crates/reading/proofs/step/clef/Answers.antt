@@ -1,8 +1,0 @@
-use mathlib.Core.Path.{refl}
-use Rattle.reading.proofs.step.clef.Goals as goal
-
-pub returns-then-content : goal.returns-then-content
-returns-then-content c = rw c.if-content.true refl
-
-pub returns : goal.returns
-returns c = rw c.if-content.false c.set_clef.ensures

@@ -1,6 +1,0 @@
-pub mod Cells
-pub mod Notes
-pub mod Copies
-pub mod Bars
-pub mod Diagnostics
-pub mod Groups

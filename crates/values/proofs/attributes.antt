@@ -1,3 +1,0 @@
-pub mod ClefLaws
-pub mod KeyLaws
-pub mod MeterLaws

@@ -1,4 +1,0 @@
-use Rattle.whys.proofs.alteration.latest_signed.Given as goal
-
-abbrev pub decreases-loop-k : goal.decreases-loop-k
-decreases-loop-k l = l.k
