@@ -10,50 +10,39 @@ mod arguments; // arguments.rt: what the program is asked for
 mod texts; // texts.rt: the texts of an input
 
 use arguments::{Layer, Options, argument, options_given};
-use fields::fields_of;
-use limits::Pae;
-use marks::findings::Finding;
+use marks::findings::{Finding, read_all};
 use marks::lookback::Marks;
 use marks::records::{Bars, Notes};
-use meanings::refusals::{Refused, show_refusal};
+use meanings::refusals::show_refusal;
 use meanings::shown::Shown;
-use reading::read::read;
-use records::cells::{DIAGNOSTIC, clear};
+use reader::fields::fields_of;
+use reader::read::{Counts, read};
+use reader::state::State;
 use rows::headings::show_heading;
 use rows::terms::Counted;
 use rows::text::Text;
-use scan::lines::{Offset, Part};
+use scan::lines::Part;
 use std::alloc::Global;
 use std::env::Env;
 use std::io;
 use std::io::{Read, Write};
 use stores::cells::{BAR, NOTE};
-use stores::diagnostic::{Diagnostic, MAX_DIAGNOSTICS};
+use stores::diagnostic::{Diagnostic, Diagnostics, MAX_DIAGNOSTICS};
 use tables::bars::{Defaults, show_bars};
 use tables::notes::show_notes;
 use texts::{is_separator, keysig_line, without_line_end};
-use tokens::cut::Place;
+use view::refusal::{Refusal, Stop};
 use whys::why::{KeyField, Whys};
 
 /// The input is shorter than this.
 const INPUT: usize = 131072;
 
-/// Lent for a reading: 4,000 notes, as many in the figure, 4,000 bars, 1,024 diagnostics.
+/// Lent for a reading, which has no heap: 4,000 notes, as many in the figure, 4,000 bars, 1,024 diagnostics.
 const NOTE_WORDS: usize = 4000 * NOTE;
 
 const BAR_WORDS: usize = 4000 * BAR;
 
-const DIAGNOSTIC_WORDS: usize = MAX_DIAGNOSTICS * DIAGNOSTIC;
-
 // ---- a reading
-
-/// How many records and diagnostics a reading has.
-#[derive(Clone, Copy)]
-struct Counts {
-    notes: u32,
-    bars: u32,
-    diagnostics: u32,
-}
 
 /// What the fields of a text set: its data, where it has any, the key, and which attributes they leave unset.
 #[derive(Clone, Copy)]
@@ -63,93 +52,30 @@ struct Given<'t> {
     unset: Defaults,
 }
 
-/// The part of a text between two offsets.
-fn part_of(text: &[u8], start: usize, end: usize) -> Option<Part<'_>>
+fn given<'t>(text: &'t [u8], diagnostics: &mut [Diagnostic]) -> Given<'t>
     requires { length text.now ≤ text_limit }
 {
-    let bytes = text.get(start..end)?;
-    let start = Offset(u32::try_from(start).ok()?);
-    Some(Part { start, bytes })
-}
-
-fn given<'t>(text: &'t [u8], words: &mut [i32]) -> Given<'t>
-    requires { length text.now ≤ text_limit }
-{
-    clear(words);
-    let fields = fields_of(text, words);
+    let fields = fields_of(text, &mut Diagnostics::new(diagnostics));
     let attributes = fields.attributes;
     Given {
-        data: if fields.present {
-            part_of(text, fields.start, fields.end)
-        } else {
-            None
-        },
+        data: fields.data,
         key: KeyField {
             alters: attributes.alters,
             line: keysig_line(text),
         },
         unset: Defaults {
-            clef: attributes.clef == 0,
-            key: !attributes.keyed,
+            clef: attributes.clef.is_none(),
+            key: attributes.fifths.is_none(),
         },
     }
-}
-
-/// Reads a text into what is lent; how much of it holds records and diagnostics, or why the text is refused.
-fn read_text(
-    text: &[u8],
-    notes: &mut [i32],
-    bars: &mut [i32],
-    figure: &mut [i32],
-    diagnostics: &mut [i32],
-) -> Result<Counts, Refused> {
-    clear(diagnostics);
-    let reading = read(text, notes, bars, figure, diagnostics, MAX_DIAGNOSTICS);
-    if reading.number == 0 {
-        Ok(Counts {
-            notes: reading.notes,
-            bars: reading.bars,
-            diagnostics: reading.diagnostics,
-        })
-    } else {
-        Err(Refused {
-            number: reading.number,
-            place: if reading.place == 0 {
-                None
-            } else {
-                Some(Place(reading.place))
-            },
-        })
-    }
-}
-
-/// What was found, by the words of so many diagnostics.
-fn findings_in(alloc: Global, words: &[i32], count: usize) -> io::Result<Vec<Finding>> {
-    let mut findings = Vec::new(alloc);
-    let (records, _) = words.as_chunks::<DIAGNOSTIC>();
-    for words in records.iter().take(count) {
-        let [number, place_kind, place, value_kind, start, end] = *words;
-        let diagnostic = Diagnostic {
-            number,
-            place_kind,
-            place,
-            value_kind,
-            start,
-            end,
-        };
-        if let Some(finding) = Finding::read(diagnostic) {
-            findings.push(finding)?;
-        }
-    }
-    Ok(findings)
 }
 
 // ---- a text
 
 /// Whether the data of a text was looked at.
-fn is_looked_at(refusal: Option<Refused>) -> bool {
+fn is_looked_at(refusal: Option<Stop>) -> bool {
     match refusal {
-        Some(refused) => 5 < refused.number,
+        Some(stop) => Refusal::NoData.number() < stop.refusal.number(),
         None => true,
     }
 }
@@ -164,7 +90,7 @@ fn show_layers<'a, 'd, W: Write>(
     notes: Notes<'a>,
     bars: Bars<'a>,
     findings: &'a [Finding],
-    refusal: Option<Refused>,
+    refusal: Option<Stop>,
     options: Options,
 ) -> io::Result<()>
     requires { length text.now ≤ text_limit }
@@ -204,7 +130,7 @@ fn show_layers<'a, 'd, W: Write>(
 }
 
 /// What came of a text, in the last row.
-fn show_outcome<W: Write>(out: &mut W, outcome: Result<Counts, Refused>) -> io::Result<()> {
+fn show_outcome<W: Write>(out: &mut W, outcome: Result<Counts, Stop>) -> io::Result<()> {
     writeln!(out)?;
     match outcome {
         Ok(counts) => {
@@ -218,8 +144,8 @@ fn show_outcome<W: Write>(out: &mut W, outcome: Result<Counts, Refused>) -> io::
             };
             writeln!(out, "accepted: {notes}, {bars}, {diagnostics}{more}")
         }
-        Err(refused) => {
-            let number = refused.number;
+        Err(stop) => {
+            let number = stop.refusal.number();
             writeln!(out, "refused {number}")
         }
     }
@@ -227,32 +153,23 @@ fn show_outcome<W: Write>(out: &mut W, outcome: Result<Counts, Refused>) -> io::
 
 /// A text that is longer than a reading takes.
 fn refuse_long<W: Write>(out: &mut W, text: &[u8]) -> io::Result<()> {
-    let refused = Refused {
-        number: 1,
-        place: None,
-    };
+    let stop = Stop::from(Refusal::TooLong);
     show_heading(out, "1. The typed line")?;
-    show_refusal(out, text, refused)?;
-    show_outcome(out, Err(refused))
+    show_refusal(out, text, stop)?;
+    show_outcome(out, Err(stop))
 }
 
 /// Reads a text and shows it.
 fn show_one<W: Write>(out: &mut W, alloc: Global, text: &[u8], options: Options) -> io::Result<()> {
-    if Pae::MAX_INPUT_BYTES < text.len() {
+    if State::MAX_INPUT_BYTES < text.len() {
         return refuse_long(out, text);
     }
     let mut notes = [0i32; NOTE_WORDS];
     let mut bars = [0i32; BAR_WORDS];
     let mut figure = [0i32; NOTE_WORDS];
-    let mut diagnostics = [0i32; DIAGNOSTIC_WORDS];
+    let mut diagnostics = [Diagnostic::default(); MAX_DIAGNOSTICS];
     let given = given(text, &mut diagnostics);
-    let outcome = read_text(
-        text,
-        &mut notes,
-        &mut bars,
-        &mut figure,
-        &mut diagnostics,
-    );
+    let outcome = read(text, &mut notes, &mut bars, &mut figure, &mut diagnostics);
     let counts = outcome.unwrap_or(Counts {
         notes: 0,
         bars: 0,
@@ -260,7 +177,8 @@ fn show_one<W: Write>(out: &mut W, alloc: Global, text: &[u8], options: Options)
     });
     let notes = Notes::new(&notes, counts.notes as usize);
     let bars = Bars::new(&bars, counts.bars as usize);
-    let findings = findings_in(alloc, &diagnostics, counts.diagnostics as usize)?;
+    let stored = &diagnostics[..counts.diagnostics as usize];
+    let findings = read_all(alloc, stored)?;
     let data = given.data.unwrap_or(Part::new(b""));
     let marks = Marks::new(alloc, data, notes)?;
     show_layers(

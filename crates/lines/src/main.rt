@@ -6,24 +6,20 @@ ghost use Rattle.std.specs.Prelude.{OnOk};
 ghost use Rattle.std.specs.Io.KnownBytes.{Appends};
 ghost use Rattle.lines.specs.Rows.{words_row, record_row};
 
-use ending::Reading;
-use limits::Pae;
-use reading::read::read;
-use records::cells::{BAR, DIAGNOSTIC, FIRST_PITCH, NOTE, PITCH, clear, natural};
-use records::note::PITCH_COUNT;
+use reader::read::{Counts, read};
 use std::io;
 use std::io::{Read, Write};
+use stores::cells::{BAR, FIRST_PITCH, NOTE, PITCH, natural};
+use stores::diagnostic::{Diagnostic, MAX_DIAGNOSTICS};
+use stores::note::PITCH_COUNT;
+use view::refusal::Stop;
 
-// Lent for every line: 16 notes, 16 bars, 16 notes of a figure, 1,024 diagnostics.
+// Lent for every line, since a reading has no heap: 16 notes, 16 bars, 16 notes of a figure, 1,024 diagnostics.
 const NOTES: usize = 16 * NOTE;
 
 const BARS: usize = 16 * BAR;
 
 const FIGURE: usize = 16 * NOTE;
-
-const CELLS: usize = Pae::MAX_DIAGNOSTICS;
-
-const SCRATCH: usize = CELLS * DIAGNOSTIC;
 
 // Standard input has at most so many bytes.
 const INPUT: usize = 4096;
@@ -63,27 +59,38 @@ fn print_record<W: Write>(out: &mut W, name: &[u8], words: &[i32]) -> io::Result
 
 fn print_reading<W: Write>(
     out: &mut W,
-    r: Reading,
+    reading: Result<Counts, Stop>,
     notes: &[i32],
     bars: &[i32],
-    found: &[i32],
+    diagnostics: &[Diagnostic],
 ) -> io::Result<()> {
-    if r.number != 0 {
-        let number = r.number;
-        let place = r.place;
-        writeln!(out, "refused {number} at {place}")?;
-    }
+    let counts = match reading {
+        Ok(counts) => counts,
+        Err(stop) => {
+            let number = stop.refusal.number();
+            let place = stop.place.0;
+            return writeln!(out, "refused {number} at {place}");
+        }
+    };
     let (notes, _) = notes.as_chunks::<NOTE>();
-    for note in notes.iter().take(r.notes as usize) {
+    for note in notes.iter().take(counts.notes as usize) {
         print_note(out, note)?;
     }
     let (bars, _) = bars.as_chunks::<BAR>();
-    for bar in bars.iter().take(r.bars as usize) {
+    for bar in bars.iter().take(counts.bars as usize) {
         print_record(out, b"bar", bar)?;
     }
-    let (diagnostics, _) = found.as_chunks::<DIAGNOSTIC>();
-    for diagnostic in diagnostics.iter().take(r.diagnostics as usize) {
-        print_record(out, b"diagnostic", diagnostic)?;
+    for diagnostic in diagnostics.iter().take(counts.diagnostics as usize) {
+        let Diagnostic {
+            number,
+            place_kind,
+            place,
+            value_kind,
+            start,
+            end,
+        } = *diagnostic;
+        let words = [number, place_kind, place, value_kind, start, end];
+        print_record(out, b"diagnostic", &words)?;
     }
     Ok(())
 }
@@ -96,13 +103,12 @@ fn read_line<W: Write>(
     notes: &mut [i32; NOTES],
     bars: &mut [i32; BARS],
     figure: &mut [i32; FIGURE],
-    found: &mut [i32; SCRATCH],
+    diagnostics: &mut [Diagnostic; MAX_DIAGNOSTICS],
 ) -> io::Result<()> {
     out.write_all(line)?;
     out.write_all(b"\n")?;
-    clear(found);
-    let r = read(line, notes, bars, figure, found, CELLS);
-    print_reading(out, r, notes, bars, found)
+    let reading = read(line, notes, bars, figure, diagnostics);
+    print_reading(out, reading, notes, bars, diagnostics)
 }
 
 fn read_lines<W: Write>(
@@ -111,11 +117,11 @@ fn read_lines<W: Write>(
     notes: &mut [i32; NOTES],
     bars: &mut [i32; BARS],
     figure: &mut [i32; FIGURE],
-    found: &mut [i32; SCRATCH],
+    diagnostics: &mut [Diagnostic; MAX_DIAGNOSTICS],
 ) -> io::Result<()> {
     for line in input.split_inclusive(|byte| *byte == b'\n') {
         let text = line.strip_suffix(b"\n").unwrap_or(line);
-        read_line(out, text, notes, bars, figure, found)?;
+        read_line(out, text, notes, bars, figure, diagnostics)?;
     }
     Ok(())
 }
@@ -127,13 +133,13 @@ fn main(rt: HostRuntime) -> io::Result<()> {
     let mut notes = [0i32; NOTES];
     let mut bars = [0i32; BARS];
     let mut figure = [0i32; FIGURE];
-    let mut found = [0i32; SCRATCH];
+    let mut diagnostics = [Diagnostic::default(); MAX_DIAGNOSTICS];
     read_lines(
         &mut out,
         input.as_slice(),
         &mut notes,
         &mut bars,
         &mut figure,
-        &mut found,
+        &mut diagnostics,
     )
 }

@@ -5,29 +5,32 @@ use scan::characters::count_characters;
 use std::io::Write;
 use std::{fmt, io};
 use tokens::cut::Place;
-
-/// Why a text is refused: the refusal's number, and the place in the data, where it has one.
-#[derive(Clone, Copy, Debug, PartialEq, Eq)]
-pub struct Refused {
-    pub number: u32,
-    pub place: Option<Place>,
-}
+use view::refusal::{Refusal, Stop};
 
 /// What a refusal means.
-fn reason(number: u32) -> &'static str {
-    match number {
-        1 => "the text is longer than 65,535 bytes",
-        2 => "fewer than 1,024 diagnostics can be stored",
-        3 => "the text is not well-formed UTF-8",
-        4 => "the text is blank",
-        5 => "there are fields and none of them is @data",
-        7 => "more than 100,000 notes",
-        8 => "more notes than the 4,000 that this program keeps",
-        9 => "a ninth pitch in one chord",
-        10 => "a ninth mark on one note",
-        11 => "a figure of more notes than this program keeps",
-        12 => "more bars than the 4,000 that this program keeps",
-        _ => "there is no note and no rest",
+fn reason(refusal: Refusal) -> &'static str {
+    match refusal {
+        Refusal::TooLong => "the text is longer than 65,535 bytes",
+        Refusal::FewCells => "fewer than 1,024 diagnostics can be stored",
+        Refusal::Malformed => "the text is not well-formed UTF-8",
+        Refusal::Blank => "the text is blank",
+        Refusal::NoData => "there are fields and none of them is @data",
+        Refusal::TooManyNotes => "more than 100,000 notes",
+        Refusal::NoNote => "more notes than the 4,000 that this program keeps",
+        Refusal::NoPitch => "a ninth pitch in one chord",
+        Refusal::NoMark => "a ninth mark on one note",
+        Refusal::NoFigure => "a figure of more notes than this program keeps",
+        Refusal::NoBar => "more bars than the 4,000 that this program keeps",
+        Refusal::NoRecord => "there is no note and no rest",
+    }
+}
+
+/// The place in the data where a text is refused, if it has one.
+pub(crate) fn place_of(stop: Stop) -> Option<Place> {
+    if stop.place == Place(0) {
+        None
+    } else {
+        Some(stop.place)
     }
 }
 
@@ -57,17 +60,17 @@ impl<'t> fmt::Display for Malformed<'t> {
 }
 
 /// The refusal of a text, in a row.
-pub fn show_refusal<W: Write>(out: &mut W, text: &[u8], refused: Refused) -> io::Result<()> {
-    let number = refused.number;
+pub fn show_refusal<W: Write>(out: &mut W, text: &[u8], stop: Stop) -> io::Result<()> {
+    let number = stop.refusal.number();
     let margin = "";
     write!(out, "{margin:MARGIN$}refused {number}")?;
-    if let Some(place) = refused.place {
+    if let Some(place) = place_of(stop) {
         let place = Term(place);
         write!(out, " at {place}")?;
     }
-    let reason = reason(number);
+    let reason = reason(stop.refusal);
     write!(out, ": {reason}")?;
-    if number == 3 {
+    if stop.refusal == Refusal::Malformed {
         let malformed = Malformed(text);
         write!(out, "{malformed}")?;
     }

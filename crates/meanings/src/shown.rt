@@ -2,13 +2,13 @@
 ghost use Rattle.std.specs.Prelude.{◌≡◌, ◌<◌, ◌^◌, ◌↔◌, None, length, IsTrue};
 ghost use Rattle.rules.specs.Limits.{diagnostic_limit};
 
-use crate::refusals::Refused;
 use marks::findings::Finding;
 use marks::lookback::Marks;
 use marks::records::Notes;
 use scan::lines::Part;
 use stores::diagnostic::{MAX_DIAGNOSTICS, Remark};
 use tokens::cut::Place;
+use view::refusal::Stop;
 
 /// Lines, and what is remarked under them, stand behind so many columns.
 pub(crate) const MARGIN: usize = 10;
@@ -21,7 +21,7 @@ pub struct Shown<'a, 'd> {
     pub marks: &'a Marks<'d>,
     pub notes: Notes<'a>,
     pub findings: &'a [Finding],
-    pub refusal: Option<Refused>,
+    pub refusal: Option<Stop>,
     ghost fits: { length text.now < 2 ^ 31 },
 }
 

@@ -1,6 +1,6 @@
 // The first layer: the typed line, with a ruler of places, and the remarks under it.
 use crate::pieces::{Piece, Pieces};
-use crate::refusals::show_refusal;
+use crate::refusals::{place_of, show_refusal};
 use crate::shown::{MARGIN, Shown};
 use rows::headings::show_heading;
 use rows::text::Text;
@@ -84,7 +84,7 @@ impl<'a, 'd> Shown<'a, 'd> {
     /// Whether a caret stands under a place: something was found or refused there.
     fn is_remarked(&self, place: usize) -> bool {
         let refused = match self.refusal {
-            Some(refused) => refused.place,
+            Some(stop) => place_of(stop),
             None => None,
         };
         self.findings
@@ -97,6 +97,7 @@ impl<'a, 'd> Shown<'a, 'd> {
     /// The last place of a piece that has a caret; where none has one, that before the piece.
     fn last_remarked(&self, piece: Piece<'_>) -> usize {
         let mut last = piece.before;
+        // A place is no item of a list.
         for before in piece.before..piece.end {
             if self.is_remarked(before + 1) {
                 last = before + 1;
@@ -113,6 +114,7 @@ impl<'a, 'd> Shown<'a, 'd> {
         }
         let margin = "";
         write!(out, "{margin:MARGIN$}")?;
+        // A place is no item of a list.
         for before in piece.before..last {
             out.write_all(if self.is_remarked(before + 1) {
                 b"^"
@@ -181,7 +183,7 @@ impl<'a, 'd> Shown<'a, 'd> {
         }
         self.show_line_ends(out)?;
         match self.refusal {
-            Some(refused) => show_refusal(out, self.text, refused),
+            Some(stop) => show_refusal(out, self.text, stop),
             None => Ok(()),
         }
     }

@@ -12,6 +12,6 @@ mod notes; // notes.rt: letters and rests
 pub mod read; // read.rt: the entry, and the data whole
 mod remark; // remark.rt: what is remarked of a token
 mod starts; // starts.rt: the open bar, and where a group, beam or figure starts
-mod state; // state.rt: what the reader holds between two tokens
+pub mod state; // state.rt: what the reader holds between two tokens
 mod voice; // voice.rt: octaves, and what waits for the next letter
 mod walk; // walk.rt: the walk over the data's tokens

@@ -1,7 +1,7 @@
 // What is lent, before and after a call.
 ghost use Rattle.std.specs.Prelude.{◌<◌};
 
-use pae::Diagnostic;
+use stores::diagnostic::Diagnostic;
 
 /// What every cell holds before a call.
 pub(crate) const RUBBISH: i32 = -77;
@@ -53,15 +53,6 @@ pub(crate) fn filled(word: i32) -> Diagnostic {
     }
 }
 
-fn is_filled(d: &Diagnostic, word: i32) -> bool {
-    d.number == word
-        && d.place_kind == word
-        && d.place == word
-        && d.value_kind == word
-        && d.start == word
-        && d.end == word
-}
-
 /// d1 to d20, with the kinds of its place and value, and a place; the kind of its value decides on the last two.
 fn is_diagnostic(d: &Diagnostic) -> bool {
     matches!(d.number, 1..=20)
@@ -77,6 +68,6 @@ pub(crate) fn are_diagnostics_right(list: &[Diagnostic], count: u32, lent: usize
     let (lent, behind) = list.split_at(lent.min(list.len()));
     let (counted, blank) = lent.split_at((count as usize).min(lent.len()));
     counted.iter().all(|d| is_diagnostic(d))
-        && blank.iter().all(|d| is_filled(d, 0))
-        && behind.iter().all(|d| is_filled(d, RUBBISH))
+        && blank.iter().all(|d| *d == filled(0))
+        && behind.iter().all(|d| *d == filled(RUBBISH))
 }

@@ -1,9 +1,7 @@
 // An answer of the list, compared with a reading.
 use stores::cells::{BAR, FIRST_PITCH, NOTE, PITCH, natural};
+use stores::diagnostic::Diagnostic;
 use stores::note::PITCH_COUNT;
-
-/// Words of a diagnostic.
-pub(crate) const DIAGNOSTIC: usize = 6;
 
 /// The answer is another one.
 #[derive(Clone, Copy)]
@@ -104,21 +102,28 @@ impl<'l> Answer<'l> {
     /// Diagnostics of a text; a value that is a part of it (kind 1) stands there by its bytes, a tab behind them.
     pub(crate) fn take_diagnostics(
         &mut self,
-        diagnostics: &[[i32; DIAGNOSTIC]],
+        diagnostics: &[Diagnostic],
         text: &[u8],
     ) -> Result<(), Differs> {
         for diagnostic in diagnostics {
+            let Diagnostic {
+                number,
+                place_kind,
+                place,
+                value_kind,
+                start,
+                end,
+            } = *diagnostic;
             self.take_byte(b'D')?;
-            let [_, _, _, kind, start, end] = *diagnostic;
-            if kind == 1 {
-                self.take_words(&diagnostic[..4])?;
+            self.take_words(&[number, place_kind, place, value_kind])?;
+            if value_kind == 1 {
                 let range = natural(start) as usize..natural(end) as usize;
                 for byte in text.get(range).ok_or(Differs)? {
                     self.take_escaped(*byte)?;
                 }
                 self.take_byte(b'\t')?;
             } else {
-                self.take_words(diagnostic)?;
+                self.take_words(&[start, end])?;
             }
         }
         Ok(())

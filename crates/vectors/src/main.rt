@@ -6,38 +6,30 @@ ghost use Rattle.std.specs.Prelude.{◌<◌};
 
 mod answer; // answer.rt: an answer of the list, compared with a reading
 
-use answer::{Answer, DIAGNOSTIC, Differs};
-use pae::{pae_read_card, pae_write_card};
-use reading::read::read;
-use records::cells::clear;
+use answer::{Answer, Differs};
+use cards::read::{CardCounts, read_card};
+use cards::width::TwoBytes;
+use cards::write::write_card;
+use reader::read::{Counts, read};
 use std::alloc::Global;
 use std::io;
 use std::io::{Read, Write};
 use stores::cells::{BAR, NOTE};
-use stores::diagnostic::MAX_DIAGNOSTICS;
+use stores::diagnostic::{Diagnostic, MAX_DIAGNOSTICS};
+use view::refusal::Stop;
 
 /// The list has at most so many bytes.
 const LIST: usize = 1048576;
 
-/// Lent for every text: 1,024 notes, 512 bars, 512 notes of a figure, 1,024 diagnostics.
+/// Lent for every text, since a reading has no heap: 1,024 notes, 512 bars, 512 notes of a figure, 1,024 diagnostics.
 const NOTES: usize = 1024 * NOTE;
 
 const BARS: usize = 512 * BAR;
 
 const FIGURE: usize = 512 * NOTE;
 
-const DIAGNOSTICS: usize = MAX_DIAGNOSTICS * DIAGNOSTIC;
-
 /// Lent for a card: more than those records take.
 const CARD: usize = 65536;
-
-/// How many records and diagnostics a reading has.
-#[derive(Clone, Copy)]
-struct Counts {
-    notes: u32,
-    bars: u32,
-    diagnostics: u32,
-}
 
 /// How many texts there are, how many of them are read otherwise and are refused, how many readings come back from their cards, and what
 /// the readings hold.
@@ -87,26 +79,6 @@ fn split_line(line: &[u8]) -> (&[u8], &[u8]) {
 
 // ---- a reading
 
-/// Reads a text into what is lent; how much of it holds records and diagnostics, or the number of the refusal.
-fn read_text(
-    text: &[u8],
-    notes: &mut [i32],
-    bars: &mut [i32],
-    figure: &mut [i32],
-    diagnostics: &mut [i32],
-) -> Result<Counts, u32> {
-    clear(diagnostics);
-    let reading = read(text, notes, bars, figure, diagnostics, MAX_DIAGNOSTICS);
-    if reading.number != 0 {
-        return Err(reading.number);
-    }
-    Ok(Counts {
-        notes: reading.notes,
-        bars: reading.bars,
-        diagnostics: reading.diagnostics,
-    })
-}
-
 /// The first records of words, so many.
 fn first_records<const N: usize>(words: &[i32], count: u32) -> &[[i32; N]]
     requires { 0 < N }
@@ -119,20 +91,22 @@ fn first_records<const N: usize>(words: &[i32], count: u32) -> &[[i32; N]]
 fn compare(
     answer: &[u8],
     text: &[u8],
-    outcome: Result<Counts, u32>,
+    outcome: Result<Counts, Stop>,
     notes: &[i32],
     bars: &[i32],
-    diagnostics: &[i32],
+    diagnostics: &[Diagnostic],
 ) -> Result<(), Differs> {
     let mut answer = Answer::new(answer);
     match outcome {
         Ok(counts) => {
             answer.take_notes(first_records::<NOTE>(notes, counts.notes))?;
             answer.take_bars(first_records::<BAR>(bars, counts.bars))?;
-            let diagnostics = first_records::<DIAGNOSTIC>(diagnostics, counts.diagnostics);
-            answer.take_diagnostics(diagnostics, text)?;
+            let stored = diagnostics
+                .get(..counts.diagnostics as usize)
+                .unwrap_or(diagnostics);
+            answer.take_diagnostics(stored, text)?;
         }
-        Err(number) => answer.take_refusal(number)?,
+        Err(stop) => answer.take_refusal(stop.refusal.number())?,
     }
     answer.end()
 }
@@ -143,10 +117,11 @@ fn compare(
 fn reads_to(card: &[u8], counts: Counts, notes: &[i32], bars: &[i32]) -> bool {
     let mut own_notes = [0i32; NOTES];
     let mut own_bars = [0i32; BARS];
-    let read = pae_read_card(card, &mut own_notes, &mut own_bars);
-    read.number == 0
-        && read.notes == counts.notes
-        && read.bars == counts.bars
+    let own = CardCounts {
+        notes: counts.notes,
+        bars: counts.bars,
+    };
+    read_card::<TwoBytes>(card, &mut own_notes, &mut own_bars) == Ok(own)
         && notes[..] == own_notes[..]
         && bars[..] == own_bars[..]
 }
@@ -159,10 +134,12 @@ fn comes_back(counts: Counts, notes: &[i32], bars: &[i32]) -> bool {
         && let Some(bar_words) = bar_words
     {
         let mut card = [0u8; CARD];
-        let written = pae_write_card(words, bar_words, &mut card);
-        match card.get(..written.length as usize) {
-            Some(card) => written.number == 0 && reads_to(card, counts, notes, bars),
-            None => false,
+        match write_card::<TwoBytes>(words, bar_words, &mut card) {
+            Ok(length) => match card.get(..length as usize) {
+                Some(card) => reads_to(card, counts, notes, bars),
+                None => false,
+            },
+            Err(_) => false,
         }
     } else {
         false
@@ -185,7 +162,7 @@ impl Tally {
     }
 
     /// One more text that was read.
-    fn count(&mut self, outcome: Result<Counts, u32>, same: bool, card: bool) {
+    fn count(&mut self, outcome: Result<Counts, Stop>, same: bool, card: bool) {
         self.texts = self.texts.saturating_add(1);
         self.differ = self.differ.saturating_add(u64::from(!same));
         self.cards = self.cards.saturating_add(u64::from(card));
@@ -210,7 +187,7 @@ fn replay<W: Write>(
     notes: &mut [i32],
     bars: &mut [i32],
     figure: &mut [i32],
-    diagnostics: &mut [i32],
+    diagnostics: &mut [Diagnostic],
 ) -> io::Result<Tally> {
     let mut tally = Tally::new();
     for line in list.split_inclusive(|byte| *byte == b'\n') {
@@ -218,7 +195,7 @@ fn replay<W: Write>(
         let (escaped, answer) = split_line(line);
         let text = unescape(alloc, escaped)?;
         let text = text.as_slice();
-        let outcome = read_text(text, notes, bars, figure, diagnostics);
+        let outcome = read(text, notes, bars, figure, diagnostics);
         let same = compare(answer, text, outcome, notes, bars, diagnostics).is_ok();
         if !same {
             out.write_all(b"differs: ")?;
@@ -239,7 +216,7 @@ fn replay_lent<W: Write>(out: &mut W, alloc: Global, list: &[u8]) -> io::Result<
     let mut notes = [0i32; NOTES];
     let mut bars = [0i32; BARS];
     let mut figure = [0i32; FIGURE];
-    let mut diagnostics = [0i32; DIAGNOSTICS];
+    let mut diagnostics = [Diagnostic::default(); MAX_DIAGNOSTICS];
     replay(
         out,
         alloc,
