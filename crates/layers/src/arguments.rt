@@ -52,7 +52,7 @@ pub(crate) struct Options {
     pub bad: Option<usize>,
 }
 
-/// What comes next.
+/// What comes next: an option may have its value in the next argument.
 #[derive(Clone, Copy)]
 enum Next {
     Option,
@@ -75,7 +75,11 @@ fn place_of(argument: &[u8]) -> Option<Place> {
             .saturating_mul(10)
             .saturating_add(u32::from(*digit - b'0'));
     }
-    if number == 0 { None } else { Some(Place(number)) }
+    if number == 0 {
+        None
+    } else {
+        Some(Place(number))
+    }
 }
 
 /// Whether an argument looks like an option: two hyphens and three or more small letters, then nothing or `=`.
@@ -181,6 +185,7 @@ impl Options {
 pub(crate) fn options_given(rt: &impl Env) -> Options {
     let mut options = Options::new();
     let mut next = Next::Option;
+    // std has no count of the arguments: they end where there is none.
     for number in 1..usize::MAX {
         let mut word = [0u8; WORD];
         match argument(rt, number, &mut word) {

@@ -38,7 +38,7 @@ use whys::why::{KeyField, Whys};
 /// The input is shorter than this.
 const INPUT: usize = 131072;
 
-/// Lent for a reading: 4,000 notes, as many in the figure, 4,000 bars, 1,024 diagnostics.
+/// Lent for a reading, which has no heap: 4,000 notes, as many in the figure, 4,000 bars, 1,024 diagnostics.
 const NOTE_WORDS: usize = 4000 * NOTE;
 
 const BAR_WORDS: usize = 4000 * BAR;
@@ -246,13 +246,7 @@ fn show_one<W: Write>(out: &mut W, alloc: Global, text: &[u8], options: Options)
     let mut figure = [0i32; NOTE_WORDS];
     let mut diagnostics = [0i32; DIAGNOSTIC_WORDS];
     let given = given(text, &mut diagnostics);
-    let outcome = read_text(
-        text,
-        &mut notes,
-        &mut bars,
-        &mut figure,
-        &mut diagnostics,
-    );
+    let outcome = read_text(text, &mut notes, &mut bars, &mut figure, &mut diagnostics);
     let counts = outcome.unwrap_or(Counts {
         notes: 0,
         bars: 0,

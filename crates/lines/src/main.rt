@@ -14,7 +14,7 @@ use records::note::PITCH_COUNT;
 use std::io;
 use std::io::{Read, Write};
 
-// Lent for every line: 16 notes, 16 bars, 16 notes of a figure, 1,024 diagnostics.
+// Lent for every line, since a reading has no heap: 16 notes, 16 bars, 16 notes of a figure, 1,024 diagnostics.
 const NOTES: usize = 16 * NOTE;
 
 const BARS: usize = 16 * BAR;

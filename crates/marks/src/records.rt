@@ -309,7 +309,18 @@ fn meter_of(numerator: i32, denominator: i32, symbol: i32) -> Option<Option<Mete
 fn bar_of(words: &[i32; BAR]) -> Option<Bar>
     ensures { TheOne (IsBar words.now) result }
 {
-    let [first, count, clef, keyed, fifths, numerator, denominator, symbol, left, right] = *words;
+    let [
+        first,
+        count,
+        clef,
+        keyed,
+        fifths,
+        numerator,
+        denominator,
+        symbol,
+        left,
+        right,
+    ] = *words;
     Some(Bar {
         first: u32::try_from(first).ok()?,
         count: u32::try_from(count).ok()?,

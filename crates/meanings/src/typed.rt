@@ -97,6 +97,7 @@ impl<'a, 'd> Shown<'a, 'd> {
     /// The last place of a piece that has a caret; where none has one, that before the piece.
     fn last_remarked(&self, piece: Piece<'_>) -> usize {
         let mut last = piece.before;
+        // A place is no item of a list.
         for before in piece.before..piece.end {
             if self.is_remarked(before + 1) {
                 last = before + 1;
@@ -113,6 +114,7 @@ impl<'a, 'd> Shown<'a, 'd> {
         }
         let margin = "";
         write!(out, "{margin:MARGIN$}")?;
+        // A place is no item of a list.
         for before in piece.before..last {
             out.write_all(if self.is_remarked(before + 1) {
                 b"^"

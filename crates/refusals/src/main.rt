@@ -17,7 +17,8 @@ use table::{Case, Outcome};
 /// The table has at most so many bytes.
 const TABLE: usize = 65536;
 
-/// Lent at most: 40,000 notes, 1,000 bars, 1,000 notes of a figure, 2,000 diagnostics. Many more notes don't fit a program's stack.
+/// Lent at most, since a reading has no heap: 40,000 notes, 1,000 bars, 1,000 notes of a figure, 2,000 diagnostics. Many more notes don't
+/// fit a program's stack.
 const NOTES: usize = 40000 * NOTE;
 
 const BARS: usize = 1000 * BAR;

@@ -46,7 +46,10 @@ fn number_at(part: &[u8], which: usize) -> u32 {
 /// Puts what a mark stands for behind a text: `128` is the byte 128, `9 C` is `C` nine times.
 fn put_mark(text: &mut Vec<u8>, mark: &[u8]) -> io::Result<()> {
     let mut words = mark.splitn(2, |byte| *byte == b' ');
-    let number = words.next().and_then(|digits| number_of(digits)).unwrap_or(0);
+    let number = words
+        .next()
+        .and_then(|digits| number_of(digits))
+        .unwrap_or(0);
     match words.next() {
         Some([byte, ..]) => {
             for _ in 0..number {

@@ -23,7 +23,7 @@ beginning_step most i text rest size next w some within small s n h =
     let k : most - i ≡ suc (most - (i + 1)) = omega (arith, w) in
     let behind : next ≡ drop size rest = n ∙ take_all _ _ (omega (arith, length-drop size rest)) in
     let e : beginning_size (most - i) rest ≡ size + beginning_size (most - (i + 1)) next
-        = rw (behind, s) (ap (λ k. beginning_size k rest) k ∙ beginning_more (most - (i + 1)) rest some) in
+    = rw (behind, s) (ap (λ k. beginning_size k rest) k ∙ beginning_more (most - (i + 1)) rest some) in
     let long : length next ≡ length rest - size = ap (λ (l : List ℕ). length l) behind ∙ length-drop size rest in
     omega (arith, e, h, within, small, long)
 

@@ -69,6 +69,7 @@ pub fn beginning(text: &[u8], most: usize) -> &[u8]
     ensures { result.now ≡ take (beginning_size most text.now) text.entry.now }
 {
     let mut rest = text;
+    // So many turns: no list has the characters.
     for _ in 0..most {
         if rest.is_empty() {
             break;

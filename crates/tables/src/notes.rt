@@ -39,6 +39,7 @@ struct Pitches<'a>(Note<'a>);
 impl<'a> fmt::Display for Pitches<'a> {
     fn fmt<W: fmt::Write>(&self, f: &mut fmt::Formatter<W>) -> fmt::Result {
         let mut space = "";
+        // By number: a pitch is words of the record, and is read by its number.
         for which in 0..self.0.pitch_count() {
             if let Some(pitch) = self.0.pitch(which) {
                 let pitch = Term(pitch);
@@ -100,6 +101,7 @@ impl<'a> fmt::Display for Notations<'a> {
             write!(f, "{comma}tuplet {actual}:{normal}")?;
             comma = ", ";
         }
+        // By number: a mark is a bit of a word.
         for which in 0..self.note.mark_count() {
             let mark = mark(self.note.mark(which));
             write!(f, "{comma}{mark}")?;

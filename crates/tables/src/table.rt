@@ -30,6 +30,7 @@ fn end_of_alike<T: Table>(table: &T, number: usize, from: usize, count: usize) -
 pub(crate) fn show_rows<T: Table, W: Write>(out: &mut W, table: &T, alike: &str) -> io::Result<()> {
     let count = table.len();
     let mut shown = 0;
+    // By number: it is shown, and records are compared by theirs.
     for number in 0..count {
         if shown <= number {
             table.show(out, number)?;

@@ -19,7 +19,7 @@ use stores::diagnostic::MAX_DIAGNOSTICS;
 /// The list has at most so many bytes.
 const LIST: usize = 1048576;
 
-/// Lent for every text: 1,024 notes, 512 bars, 512 notes of a figure, 1,024 diagnostics.
+/// Lent for every text, since a reading has no heap: 1,024 notes, 512 bars, 512 notes of a figure, 1,024 diagnostics.
 const NOTES: usize = 1024 * NOTE;
 
 const BARS: usize = 512 * BAR;

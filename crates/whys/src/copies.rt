@@ -23,6 +23,7 @@ impl<'a> fmt::Display for Copied<'a> {
             return f.write_str("a rest");
         }
         let mut comma = "";
+        // By number: a pitch is words of the record, and is read by its number.
         for which in 0..count {
             if let Some(pitch) = self.note.pitch(which) {
                 let by = if self.place.0 < pitch.place.0 {
@@ -58,6 +59,7 @@ pub(crate) fn show_copies<W: Write>(
         Some(other) => other.stored.map_or(0, |number| number.saturating_add(1)),
         None => 0,
     };
+    // The number is shown.
     for number in (first..=last).take(NAMED) {
         if let Some(note) = notes.get(number) {
             let number = number.saturating_add(1);

@@ -26,6 +26,7 @@ fn count_lengths(text: &[u8]) -> usize
 /// Element `index` of a pattern, from 0.
 fn length_at(pattern: Pattern<'_>, index: usize) -> Length {
     let mut rest = pattern;
+    // So many turns: a pattern gives its lengths one after the other.
     for _ in 0..index {
         match rest.tail() {
             Some(tail) => rest = tail,
@@ -38,6 +39,7 @@ fn length_at(pattern: Pattern<'_>, index: usize) -> Length {
 /// Who took the elements before `index`: the last one first.
 fn show_takers<W: Write>(out: &mut W, before: Before<'_, '_>, index: usize) -> io::Result<()> {
     let mut end = before.end;
+    // The number is shown.
     for element in (1..=index).rev().take(NAMED) {
         let Some(taker) = Before::new(before.marks, end).taker() else {
             return Ok(());

@@ -21,6 +21,7 @@ enum Cause<'d> {
     Key(Mark<'d>),
     /// The keysig field in a line.
     Field(Line),
+    /// No sign reaches it and no key was taken.
     Nothing,
 }
 

@@ -8,5 +8,6 @@ pub loop-diagnostic-preserved : goal.loop-diagnostic-preserved
 loop-diagnostic-preserved c =
     let more = findings_more c.args.diagnostics.now c.loop-diagnostic.diagnostic-index c.loop-diagnostic.findings.items c.match-read.findings.items in
     elim c.match-read.branch [
-        in-Some+in_ok-push w ↦ more _ (Some w.in-Some.finding) (search rules) c.loop-diagnostic.invariant w.in-Some.ensures (search rules)
-      | in_default w ↦ more _ None (search rules) c.loop-diagnostic.invariant w.in_default.ensures (search rules) ]
+      | in-Some+in_ok-push w ↦ more _ (Some w.in-Some.finding) (search rules) c.loop-diagnostic.invariant w.in-Some.ensures (search rules)
+      | in_default w ↦ more _ None (search rules) c.loop-diagnostic.invariant w.in_default.ensures (search rules)
+    ]
