@@ -57,7 +57,7 @@ struct Counts {
 
 /// What the fields of a text set: its data, where it has any, the key, and which attributes they leave unset.
 #[derive(Clone, Copy)]
-struct Given<'t> {
+struct Settings<'t> {
     data: Option<Part<'t>>,
     key: KeyField,
     unset: Defaults,
@@ -72,13 +72,13 @@ fn part_of(text: &[u8], start: usize, end: usize) -> Option<Part<'_>>
     Some(Part { start, bytes })
 }
 
-fn given<'t>(text: &'t [u8], words: &mut [i32]) -> Given<'t>
+fn settings_of<'t>(text: &'t [u8], words: &mut [i32]) -> Settings<'t>
     requires { length text.now ≤ text_limit }
 {
     clear(words);
     let fields = fields_of(text, words);
     let attributes = fields.attributes;
-    Given {
+    Settings {
         data: if fields.present {
             part_of(text, fields.start, fields.end)
         } else {
@@ -159,7 +159,7 @@ fn show_layers<'a, 'd, W: Write>(
     out: &mut W,
     alloc: Global,
     text: &'a [u8],
-    given: Given<'a>,
+    settings: Settings<'a>,
     marks: &'a Marks<'d>,
     notes: Notes<'a>,
     bars: Bars<'a>,
@@ -171,7 +171,7 @@ fn show_layers<'a, 'd, W: Write>(
 {
     let shown = Shown {
         text,
-        data: given.data,
+        data: settings.data,
         marks,
         notes,
         findings,
@@ -190,13 +190,13 @@ fn show_layers<'a, 'd, W: Write>(
         show_notes(out, alloc, notes, marks)?;
     }
     if options.has(Layer::Bars) {
-        show_bars(out, bars, notes, marks, given.unset)?;
+        show_bars(out, bars, notes, marks, settings.unset)?;
     }
     if options.has(Layer::Why) {
         let whys = Whys {
             marks,
             notes,
-            key: given.key,
+            key: settings.key,
         };
         whys.show(out, options.letter)?;
     }
@@ -245,7 +245,7 @@ fn show_one<W: Write>(out: &mut W, alloc: Global, text: &[u8], options: Options)
     let mut bars = [0i32; BAR_WORDS];
     let mut figure = [0i32; NOTE_WORDS];
     let mut diagnostics = [0i32; DIAGNOSTIC_WORDS];
-    let given = given(text, &mut diagnostics);
+    let settings = settings_of(text, &mut diagnostics);
     let outcome = read_text(text, &mut notes, &mut bars, &mut figure, &mut diagnostics);
     let counts = outcome.unwrap_or(Counts {
         notes: 0,
@@ -255,13 +255,13 @@ fn show_one<W: Write>(out: &mut W, alloc: Global, text: &[u8], options: Options)
     let notes = Notes::new(&notes, counts.notes as usize);
     let bars = Bars::new(&bars, counts.bars as usize);
     let findings = findings_in(alloc, &diagnostics, counts.diagnostics as usize)?;
-    let data = given.data.unwrap_or(Part::new(b""));
+    let data = settings.data.unwrap_or(Part::new(b""));
     let marks = Marks::new(alloc, data, notes)?;
     show_layers(
         out,
         alloc,
         text,
-        given,
+        settings,
         &marks,
         notes,
         bars,

@@ -1,6 +1,6 @@
 -- The kinds of marks, as the look-back tells them apart. Assumes nothing.
-use Rattle.std.specs.Prelude.{ℕ, Bool, true, false, leb}
-use Rattle.std.proofs.Math.Option.{Option, none, some}
+use Rattle.std.specs.Prelude.{Bool, true, false, leb}
+use Rattle.std.proofs.Math.Option.{some}
 use Rattle.rules.specs.Tokens as t
 
 -- `A` to `G`

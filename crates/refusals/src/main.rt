@@ -5,13 +5,14 @@
 mod cells; // cells.rt: what is lent, before and after a call
 mod table; // table.rt: the lines of the table
 
-use cells::{RUBBISH, are_diagnostics_right, are_records_right, filled, is_figure_right};
+use cells::{
+    RUBBISH, are_bars_right, are_diagnostics_right, are_notes_right, filled, is_figure_right,
+};
 use pae::pae_read;
 use std::alloc::Global;
 use std::io;
 use std::io::{Read, Write};
 use stores::cells::{BAR, NOTE};
-use stores::note::PLACE;
 use table::{Case, Outcome};
 
 /// The table has at most so many bytes.
@@ -26,9 +27,6 @@ const BARS: usize = 1000 * BAR;
 const FIGURE: usize = 1000 * NOTE;
 
 const CELLS: usize = 2000;
-
-/// The word of a bar that counts its notes.
-const NOTE_COUNT: usize = 1;
 
 /// What came of a case, and whether every cell is as it must be.
 #[derive(Clone, Copy)]
@@ -59,8 +57,8 @@ fn call(case: Case<'_>, text: &[u8]) -> Told {
             bars: reading.bars,
             diagnostics: reading.diagnostics,
         },
-        is_right: are_records_right::<NOTE>(&notes, reading.notes, PLACE, lent.notes)
-            && are_records_right::<BAR>(&bars, reading.bars, NOTE_COUNT, lent.bars)
+        is_right: are_notes_right(&notes, reading.notes, lent.notes)
+            && are_bars_right(&bars, reading.bars, lent.bars)
             && is_figure_right(&figure, lent.figure)
             && are_diagnostics_right(&list, reading.diagnostics, lent.cells),
     }

@@ -1,4 +1,4 @@
-use Rattle.std.proofs.Common.{rules, ◌≡◌, ◌∙◌, sym, ap}
+use Rattle.std.proofs.Common.{rules, ◌∙◌}
 use Rattle.marks.specs.Marks.{items_in}
 use Rattle.marks.proofs.MarksLaws.{items_push, next_push, marks_push, bytes_behind, behind_is}
 use Rattle.marks.proofs.lookback.Marks.new.Goals as goal
