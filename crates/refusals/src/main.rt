@@ -39,15 +39,15 @@ struct Told {
 fn call(
     lent: Lent,
     text: &[u8],
-    notes: &mut [i32],
-    bars: &mut [i32],
-    figure: &mut [i32],
-    list: &mut [Diagnostic],
+    notes: &mut [i32; NOTES],
+    bars: &mut [i32; BARS],
+    figure: &mut [i32; FIGURE],
+    list: &mut [Diagnostic; CELLS],
 ) -> Told {
-    let note_words = lent.notes.min(notes.len());
-    let bar_words = lent.bars.min(bars.len());
-    let figure_words = lent.figure.min(figure.len());
-    let cells = lent.cells.min(list.len());
+    let note_words = lent.notes.min(NOTES);
+    let bar_words = lent.bars.min(BARS);
+    let figure_words = lent.figure.min(FIGURE);
+    let cells = lent.cells.min(CELLS);
     let reading = pae_read(
         text,
         &mut notes[..note_words],
@@ -63,10 +63,10 @@ fn call(
             bars: reading.bars,
             diagnostics: reading.diagnostics,
         },
-        is_right: are_notes_right(notes, reading.notes, note_words)
-            && are_bars_right(bars, reading.bars, bar_words)
-            && is_figure_right(figure, figure_words)
-            && are_diagnostics_right(list, reading.diagnostics, cells),
+        is_right: are_notes_right(&notes[..], reading.notes, note_words)
+            && are_bars_right(&bars[..], reading.bars, bar_words)
+            && is_figure_right(&figure[..], figure_words)
+            && are_diagnostics_right(&list[..], reading.diagnostics, cells),
     }
 }
 
