@@ -46,18 +46,18 @@ const BAR_WORDS: usize = 4000 * BAR;
 
 /// What the fields of a text set: its data, where it has any, the key, and which attributes they leave unset.
 #[derive(Clone, Copy)]
-struct Given<'t> {
+struct Settings<'t> {
     data: Option<Part<'t>>,
     key: KeyField,
     unset: Defaults,
 }
 
-fn given<'t>(text: &'t [u8], diagnostics: &mut [Diagnostic]) -> Given<'t>
+fn settings_of<'t>(text: &'t [u8], diagnostics: &mut [Diagnostic]) -> Settings<'t>
     requires { length text.now ≤ text_limit }
 {
     let fields = fields_of(text, &mut Diagnostics::new(diagnostics));
     let attributes = fields.attributes;
-    Given {
+    Settings {
         data: fields.data,
         key: KeyField {
             alters: attributes.alters,
@@ -85,7 +85,7 @@ fn show_layers<'a, 'd, W: Write>(
     out: &mut W,
     alloc: Global,
     text: &'a [u8],
-    given: Given<'a>,
+    settings: Settings<'a>,
     marks: &'a Marks<'d>,
     notes: Notes<'a>,
     bars: Bars<'a>,
@@ -97,7 +97,7 @@ fn show_layers<'a, 'd, W: Write>(
 {
     let shown = Shown {
         text,
-        data: given.data,
+        data: settings.data,
         marks,
         notes,
         findings,
@@ -116,13 +116,13 @@ fn show_layers<'a, 'd, W: Write>(
         show_notes(out, alloc, notes, marks)?;
     }
     if options.has(Layer::Bars) {
-        show_bars(out, bars, notes, marks, given.unset)?;
+        show_bars(out, bars, notes, marks, settings.unset)?;
     }
     if options.has(Layer::Why) {
         let whys = Whys {
             marks,
             notes,
-            key: given.key,
+            key: settings.key,
         };
         whys.show(out, options.letter)?;
     }
@@ -168,7 +168,7 @@ fn show_one<W: Write>(out: &mut W, alloc: Global, text: &[u8], options: Options)
     let mut bars = [0i32; BAR_WORDS];
     let mut figure = [0i32; NOTE_WORDS];
     let mut diagnostics = [Diagnostic::default(); MAX_DIAGNOSTICS];
-    let given = given(text, &mut diagnostics);
+    let settings = settings_of(text, &mut diagnostics);
     let outcome = read(text, &mut notes, &mut bars, &mut figure, &mut diagnostics);
     let counts = outcome.unwrap_or(Counts {
         notes: 0,
@@ -179,13 +179,13 @@ fn show_one<W: Write>(out: &mut W, alloc: Global, text: &[u8], options: Options)
     let bars = Bars::new(&bars, counts.bars as usize);
     let stored = &diagnostics[..counts.diagnostics as usize];
     let findings = read_all(alloc, stored)?;
-    let data = given.data.unwrap_or(Part::new(b""));
+    let data = settings.data.unwrap_or(Part::new(b""));
     let marks = Marks::new(alloc, data, notes)?;
     show_layers(
         out,
         alloc,
         text,
-        given,
+        settings,
         &marks,
         notes,
         bars,

@@ -1,10 +1,13 @@
 // What is lent, before and after a call.
-ghost use Rattle.std.specs.Prelude.{◌<◌};
-
+use stores::cells::{BAR, NOTE};
 use stores::diagnostic::Diagnostic;
+use stores::note::PLACE;
 
 /// What every cell holds before a call.
 pub(crate) const RUBBISH: i32 = -77;
+
+/// The word of a bar that counts its notes.
+const NOTE_COUNT: usize = 1;
 
 /// No rubbish is in the counted words; behind them what is lent is 0, and behind that the rubbish still stands.
 fn are_right(words: &[i32], counted: usize, lent: usize) -> bool {
@@ -15,23 +18,28 @@ fn are_right(words: &[i32], counted: usize, lent: usize) -> bool {
         && behind.iter().all(|word| *word == RUBBISH)
 }
 
-/// So many records of `N` words are counted; each has a number from 1 in one word. All else that is lent is 0.
-pub(crate) fn are_records_right<const N: usize>(
-    words: &[i32],
-    count: u32,
-    word: usize,
-    lent: usize,
-) -> bool
-    requires { 0 < N }
-{
-    let count = count as usize;
-    let (records, _) = words.as_chunks::<N>();
-    count <= records.len()
-        && records.iter().take(count).all(|record| match record.get(word) {
-            Some(word) => 0 < *word,
-            None => false,
-        })
-        && are_right(words, count.saturating_mul(N), lent)
+/// So many notes are counted, each with a place; all else that is lent is 0.
+pub(crate) fn are_notes_right(words: &[i32], count: u32, lent: usize) -> bool {
+    let (notes, _) = words.as_chunks::<NOTE>();
+    match notes.get(..count as usize) {
+        Some(counted) => {
+            counted.iter().all(|note| 0 < note[PLACE])
+                && are_right(words, count as usize * NOTE, lent)
+        }
+        None => false,
+    }
+}
+
+/// So many bars are counted, each with a note; all else that is lent is 0.
+pub(crate) fn are_bars_right(words: &[i32], count: u32, lent: usize) -> bool {
+    let (bars, _) = words.as_chunks::<BAR>();
+    match bars.get(..count as usize) {
+        Some(counted) => {
+            counted.iter().all(|bar| 0 < bar[NOTE_COUNT])
+                && are_right(words, count as usize * BAR, lent)
+        }
+        None => false,
+    }
 }
 
 /// All that is lent of a figure is 0.

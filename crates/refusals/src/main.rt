@@ -5,14 +5,15 @@
 mod cells; // cells.rt: what is lent, before and after a call
 mod table; // table.rt: the lines of the table
 
-use cells::{RUBBISH, are_diagnostics_right, are_records_right, filled, is_figure_right};
-use pae::pae_read;
+use cells::{
+    RUBBISH, are_bars_right, are_diagnostics_right, are_notes_right, filled, is_figure_right,
+};
+use pae::{Diagnostic, pae_read};
 use std::alloc::Global;
 use std::io;
 use std::io::{Read, Write};
 use stores::cells::{BAR, NOTE};
-use stores::note::PLACE;
-use table::{Case, Outcome};
+use table::{Case, Lent, Outcome};
 
 /// The table has at most so many bytes.
 const TABLE: usize = 65536;
@@ -27,9 +28,6 @@ const FIGURE: usize = 1000 * NOTE;
 
 const CELLS: usize = 2000;
 
-/// The word of a bar that counts its notes.
-const NOTE_COUNT: usize = 1;
-
 /// What came of a case, and whether every cell is as it must be.
 #[derive(Clone, Copy)]
 struct Told {
@@ -37,19 +35,25 @@ struct Told {
     is_right: bool,
 }
 
-/// The call that a case asks for, with rubbish in every cell, and a look at every cell afterwards.
-fn call(case: Case<'_>, text: &[u8]) -> Told {
-    let mut notes = [RUBBISH; NOTES];
-    let mut bars = [RUBBISH; BARS];
-    let mut figure = [RUBBISH; FIGURE];
-    let mut list = [filled(RUBBISH); CELLS];
-    let lent = case.lent();
+/// The call that a case asks for, and a look at every cell afterwards.
+fn call(
+    lent: Lent,
+    text: &[u8],
+    notes: &mut [i32; NOTES],
+    bars: &mut [i32; BARS],
+    figure: &mut [i32; FIGURE],
+    list: &mut [Diagnostic; CELLS],
+) -> Told {
+    let note_words = lent.notes.min(NOTES);
+    let bar_words = lent.bars.min(BARS);
+    let figure_words = lent.figure.min(FIGURE);
+    let cells = lent.cells.min(CELLS);
     let reading = pae_read(
         text,
-        &mut notes[..lent.notes.min(NOTES)],
-        &mut bars[..lent.bars.min(BARS)],
-        &mut figure[..lent.figure.min(FIGURE)],
-        &mut list[..lent.cells.min(CELLS)],
+        &mut notes[..note_words],
+        &mut bars[..bar_words],
+        &mut figure[..figure_words],
+        &mut list[..cells],
     );
     Told {
         outcome: Outcome {
@@ -59,11 +63,20 @@ fn call(case: Case<'_>, text: &[u8]) -> Told {
             bars: reading.bars,
             diagnostics: reading.diagnostics,
         },
-        is_right: are_records_right::<NOTE>(&notes, reading.notes, PLACE, lent.notes)
-            && are_records_right::<BAR>(&bars, reading.bars, NOTE_COUNT, lent.bars)
-            && is_figure_right(&figure, lent.figure)
-            && are_diagnostics_right(&list, reading.diagnostics, lent.cells),
+        is_right: are_notes_right(&notes[..], reading.notes, note_words)
+            && are_bars_right(&bars[..], reading.bars, bar_words)
+            && is_figure_right(&figure[..], figure_words)
+            && are_diagnostics_right(&list[..], reading.diagnostics, cells),
     }
+}
+
+/// The same, with rubbish in every cell.
+fn call_lent(lent: Lent, text: &[u8]) -> Told {
+    let mut notes = [RUBBISH; NOTES];
+    let mut bars = [RUBBISH; BARS];
+    let mut figure = [RUBBISH; FIGURE];
+    let mut list = [filled(RUBBISH); CELLS];
+    call(lent, text, &mut notes, &mut bars, &mut figure, &mut list)
 }
 
 /// The case as the table has it, what came, whether the cells are as they must be, and whether all is as the table says.
@@ -97,7 +110,7 @@ fn run_line<W: Write>(out: &mut W, alloc: Global, line: &[u8]) -> io::Result<()>
     match Case::new(line) {
         Some(case) if !matches!(line, [b'#', ..]) => {
             let text = case.text(alloc)?;
-            print_row(out, case, call(case, text.as_slice()))
+            print_row(out, case, call_lent(case.lent(), text.as_slice()))
         }
         _ => {
             out.write_all(line)?;

@@ -52,6 +52,7 @@ fn put_mark(text: &mut Vec<u8>, mark: &[u8]) -> io::Result<()> {
         .unwrap_or(0);
     match words.next() {
         Some([byte, ..]) => {
+            // The byte is put so often.
             for _ in 0..number {
                 text.push(*byte)?;
             }
