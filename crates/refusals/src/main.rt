@@ -8,11 +8,12 @@ mod table; // table.rt: the lines of the table
 use cells::{
     RUBBISH, are_bars_right, are_diagnostics_right, are_notes_right, filled, is_figure_right,
 };
-use pae::{Diagnostic, pae_read};
+use pae::pae_read;
 use std::alloc::Global;
 use std::io;
 use std::io::{Read, Write};
 use stores::cells::{BAR, NOTE};
+use stores::diagnostic::Diagnostic;
 use table::{Case, Lent, Outcome};
 
 /// The table has at most so many bytes.
