@@ -177,7 +177,9 @@ fn show_one<W: Write>(out: &mut W, alloc: Global, text: &[u8], options: Options)
     });
     let notes = Notes::new(&notes, counts.notes as usize);
     let bars = Bars::new(&bars, counts.bars as usize);
-    let stored = &diagnostics[..counts.diagnostics as usize];
+    let stored = diagnostics
+        .get(..counts.diagnostics as usize)
+        .unwrap_or(&diagnostics);
     let findings = read_all(alloc, stored)?;
     let data = settings.data.unwrap_or(Part::new(b""));
     let marks = Marks::new(alloc, data, notes)?;
