@@ -174,10 +174,10 @@ fn pitch_of(words: &[i32; PITCH]) -> Option<Pitch>
 }
 
 /// Whether a note was stored by the token at a place.
-fn has_place(record: &[i32; NOTE], place: Place) -> bool
-    ensures { result ≡ has_place place.0 record.now }
+fn has_place(words: &[i32; NOTE], place: Place) -> bool
+    ensures { result ≡ has_place place.0 words.now }
 {
-    natural(record[PLACE]) == place.0
+    natural(words[PLACE]) == place.0
 }
 
 /// How many records, from the first one on, were stored by the token at a place.
