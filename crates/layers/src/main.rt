@@ -205,6 +205,7 @@ fn show_rule<W: Write>(out: &mut W) -> io::Result<()> {
 }
 
 /// The texts of the input, a line that separates between two.
+// Parameters, here and below: a struct of them would be taken apart at the next call.
 fn show_all<W: Write>(
     out: &mut W,
     alloc: Global,
