@@ -53,6 +53,7 @@ pub(crate) struct Options {
 }
 
 /// What comes next: an option may have its value in the next argument.
+// An enum: a step of its own for each would have to be handed out as a closure, which CI refuses.
 #[derive(Clone, Copy)]
 enum Next {
     Option,
@@ -67,6 +68,7 @@ fn place_of(argument: &[u8]) -> Option<Place> {
         return None;
     }
     let mut number: u32 = 0;
+    // Digit by digit: `parse` takes a `+` too.
     for digit in argument {
         if !digit.is_ascii_digit() {
             return None;
@@ -187,6 +189,7 @@ pub(crate) fn options_given(rt: &impl Env) -> Options {
     let mut next = Next::Option;
     // std has no count of the arguments: they end where there is none.
     for number in 1..usize::MAX {
+        // std's `arg` fills a slice.
         let mut word = [0u8; WORD];
         match argument(rt, number, &mut word) {
             Some(size) => next = options.take(number, &word[..size], next),
@@ -202,6 +205,7 @@ pub(crate) fn options_given(rt: &impl Env) -> Options {
 }
 
 /// An argument, put into the buffer: its size, 0 for one that is longer than the buffer, none behind the last.
+// No error for a longer one: it is no option and no name, as an empty one isn't.
 pub(crate) fn argument(rt: &impl Env, number: usize, buffer: &mut [u8]) -> Option<usize>
     ensures { IfSome result (λ size. size ≤ length buffer.new) }
 {

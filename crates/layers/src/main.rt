@@ -81,6 +81,7 @@ fn is_looked_at(refusal: Option<Stop>) -> bool {
 }
 
 /// The layers that are asked for; of a refused text the first, and its marks, if its data was looked at.
+// Called once: a struct of the parameters would be made there and taken apart here.
 fn show_layers<'a, 'd, W: Write>(
     out: &mut W,
     alloc: Global,
@@ -206,12 +207,14 @@ fn show_rule<W: Write>(out: &mut W) -> io::Result<()> {
 }
 
 /// The texts of the input, a line that separates between two.
+// Parameters, here and below: a struct of them would be taken apart at the next call.
 fn show_all<W: Write>(
     out: &mut W,
     alloc: Global,
     input: &[u8],
     options: Options,
 ) -> io::Result<()> {
+    // By offsets: a text is the slice between two separators, of many lines, which no split gives.
     let mut start = 0usize;
     let mut end = 0usize;
     for line in input.split_inclusive(|byte| *byte == b'\n') {
@@ -324,6 +327,7 @@ fn input_of<R: Env + Input>(rt: &R, alloc: Global, text: Option<usize>) -> io::R
         rt.reader().take(INPUT as u64).read_to_end(&mut input)?;
         return Ok(input);
     };
+    // std's `arg` fills a slice.
     let mut buffer = [0u8; INPUT];
     let size = argument(rt, number, &mut buffer).unwrap_or(0);
     Ok(Vec::from_slice(alloc, &buffer[..size])?)
@@ -337,6 +341,7 @@ fn main(rt: HostRuntime) -> io::Result<()> {
         return show_help(&mut out);
     }
     if let Some(number) = options.bad {
+        // std's `arg` fills a slice.
         let mut buffer = [0u8; INPUT];
         return refuse_argument(&rt, &mut out, &mut buffer, number);
     }

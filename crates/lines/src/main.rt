@@ -97,6 +97,7 @@ fn print_reading<W: Write>(
 
 // ---- lines
 
+// The four lists are parameters each, here and below, as `read` takes them.
 fn read_line<W: Write>(
     out: &mut W,
     line: &[u8],

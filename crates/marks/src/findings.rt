@@ -17,6 +17,7 @@ pub struct Finding {
 }
 
 /// The remark of a number.
+// A function: a `TryFrom` of `Remark` would stand in stores, which reads no diagnostics back.
 fn remark_of(number: i32) -> Option<Remark>
     ensures { TheOne (IsRemark number) result }
 {

@@ -35,6 +35,8 @@ pub struct Mark<'d> {
 }
 
 impl<'d> Mark<'d> {
+    // A method for each kind that is asked for: no generic function takes a pattern.
+
     /// The octave that it sets; one out of range is none.
     pub fn octave(&self) -> Option<Octave>
         ensures { result ≡ octave_of self.now.token }
@@ -267,6 +269,7 @@ fn took_length(token: Token<'_>, notes: Notes<'_>, stored: Option<usize>) -> boo
     };
     match token {
         Token::Rest => true,
+        // By the word: one below 0 counts as 0 here, and is no kind for `Note::kind`.
         Token::Letter(_) => notes.0[number][KIND] <= 0,
         _ => false,
     }

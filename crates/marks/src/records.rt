@@ -256,6 +256,7 @@ impl<'a> Bars<'a> {
 }
 
 /// The clef of a word, none for 0, if the word is one.
+// Here and below a record's words say what is set; cards' functions of these names refuse by error.
 fn clef_of(word: i32) -> Option<Option<Clef>>
     ensures { TheOne (IsClef word) result }
 {

@@ -22,6 +22,7 @@ impl fmt::Display for ClefSign {
 }
 
 /// The steps in the order of the sharps.
+// Steps: `Key::SHARPS` has letters, and only tokens makes a step of a letter.
 const SHARPS: [Step; 7] = [
     Step::F,
     Step::C,

@@ -78,6 +78,7 @@ impl<'a, 'd> Shown<'a, 'd> {
     }
 
     /// The records that were stored from one mark on, before another.
+    // Two marks, here and below: a struct of them would be made for one call and taken apart in it.
     pub(crate) fn notes_between(&self, from: Mark<'d>, to: Mark<'d>) -> Notes<'a> {
         let end = self.records_before(to);
         let start = self.records_before(from).min(end);

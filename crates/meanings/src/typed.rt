@@ -18,6 +18,7 @@ const TENS: usize = 6553;
 fn show_ruler<W: Write>(out: &mut W, piece: Piece<'_>) -> io::Result<()> {
     let label = "  place";
     write!(out, "{label:MARGIN$}")?;
+    // By number: tens of places are shown, and no list has them.
     for before in piece.before / 10..piece.end.div_ceil(10) {
         let first = if before == 0 { '1' } else { '.' };
         let tens = before + 1;

@@ -10,6 +10,7 @@ pub(crate) const RUBBISH: i32 = -77;
 const NOTE_COUNT: usize = 1;
 
 /// No rubbish is in the counted words; behind them what is lent is 0, and behind that the rubbish still stands.
+// Whole lists with what is lent of them: what stands behind that is looked at too.
 fn are_right(words: &[i32], counted: usize, lent: usize) -> bool {
     let (lent, behind) = words.split_at(lent.min(words.len()));
     let (counted, blank) = lent.split_at(counted.min(lent.len()));

@@ -12,6 +12,7 @@ pub(crate) struct Lent {
 }
 
 /// What the specification gives, or what came: number and place of a refusal, 0 and 0 for none; counts.
+// Numbers, with 0 for none: the table has them so, and so has the C interface.
 #[derive(Clone, Copy, PartialEq, Eq)]
 pub(crate) struct Outcome {
     pub(crate) number: u32,
@@ -31,11 +32,13 @@ pub(crate) struct Case<'l> {
 }
 
 /// The number of decimal digits.
+// As in the program `vectors`, with which this one shares no crate of programs.
 fn number_of(digits: &[u8]) -> Option<u32> {
     std::str::from_utf8(digits).ok()?.parse::<u32>().ok()
 }
 
 /// The number in a part of a line, from 0; 0 where it has none.
+// No `Option`: a column that the table leaves out is 0.
 fn number_at(part: &[u8], which: usize) -> u32 {
     part.split(|byte| *byte == b' ')
         .filter_map(|digits| number_of(digits))

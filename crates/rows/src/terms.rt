@@ -6,6 +6,7 @@ use tokens::cut::Place;
 use tokens::rhythm::{Duration, Edge, Length, Step};
 
 /// A value by the field's term for it.
+// A struct of its own: `Display` of another crate's type can only stand in that crate.
 #[derive(Clone, Copy)]
 pub struct Term<T>(pub T);
 

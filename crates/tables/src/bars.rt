@@ -63,6 +63,7 @@ impl fmt::Display for Span {
 }
 
 /// What a bar sets, if it sets it; with a star where nobody set it, so that it holds by default.
+// The flag is no part of the value: the fields and the marks tell it, not the bar's record.
 #[derive(Clone, Copy)]
 struct Setting<T> {
     value: Option<T>,

@@ -14,6 +14,7 @@ pub(crate) struct Answer<'l> {
 }
 
 /// The number of decimal digits.
+// As in the program `refusals`, with which this one shares no crate of programs.
 fn number_of(digits: &[u8]) -> Option<u32> {
     std::str::from_utf8(digits).ok()?.parse::<u32>().ok()
 }
@@ -116,6 +117,7 @@ impl<'l> Answer<'l> {
             } = *diagnostic;
             self.take_byte(b'D')?;
             self.take_words(&[number, place_kind, place, value_kind])?;
+            // By its number: the list has the words that C reads.
             if value_kind == 1 {
                 let range = natural(start) as usize..natural(end) as usize;
                 for byte in text.get(range).ok_or(Differs)? {

@@ -11,6 +11,7 @@ use stores::note::Pitch;
 use tokens::rhythm::{Octave, Step};
 
 /// Where a letter's alteration comes from.
+// No `Option`: `Nothing` is a cause as the others are, with words of its own.
 #[derive(Clone, Copy)]
 enum Cause<'d> {
     /// Its own sign.
