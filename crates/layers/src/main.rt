@@ -1,6 +1,7 @@
-// Shows incipits in four layers: the typed line with a ruler of places, its marks, the notes, the bars; and apart from them why each letter,
-// rest and copy is as it is. A text is an argument or comes from standard input, where a line that is exactly `---` stands between two, or,
-// with `--lines`, each line is one. The line end behind a text is no part of it.
+// Shows incipits in four layers: the typed line with a ruler of places, its marks, the notes, the
+// bars; and apart from them why each letter, rest and copy is as it is. A text is an argument or
+// comes from standard input, where a line that is exactly `---` stands between two, or, with
+// `--lines`, each line is one. The line end behind a text is no part of it.
 #![tactic(auto)]
 
 ghost use Rattle.std.specs.Prelude.{◌≤◌, length};

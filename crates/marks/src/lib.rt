@@ -1,5 +1,5 @@
-// The marks of the data, its tokens, with the records that they stored; the look-back over them; records and diagnostics by their fields; and
-// what marks are in words. For the program `layers`.
+// The marks of the data, its tokens, with the records that they stored; the look-back over them;
+// records and diagnostics by their fields; and what marks are in words. For the program `layers`.
 #![tactic(auto)]
 
 pub mod findings; // findings.rt: diagnostics by their fields

@@ -20,8 +20,8 @@ use tokens::cut::{Place, Span, Tokens};
 use tokens::kinds::{Figure, Grace, Marking, Token};
 use tokens::rhythm::{Accidental, Octave, Pattern, Step};
 
-/// A mark: a token of the data, with its number from 0, its place, its offset in the text and its bytes, and with the number of the last
-/// record that it stored, where it stored one.
+/// A mark: a token of the data, with its number from 0, its place, its offset in the text and its
+/// bytes, and with the number of the last record that it stored, where it stored one.
 #[derive(Clone, Copy)]
 pub struct Mark<'d> {
     pub number: usize,
@@ -259,7 +259,8 @@ fn last_of(first: usize, end: usize) -> Option<usize>
     if first < end { Some(end - 1) } else { None }
 }
 
-/// Whether a token took a length of the pattern: a rest, or a letter that opened a note and no grace; it stored this record.
+/// Whether a token took a length of the pattern: a rest, or a letter that opened a note and no
+/// grace; it stored this record.
 fn took_length(token: Token<'_>, notes: Notes<'_>, stored: Option<usize>) -> bool
     requires { IfSome stored (λ number. number < length notes.0.now) }
     ensures { result ≡ took_length notes.entry.0.now (token_in token.entry) stored }
@@ -297,7 +298,8 @@ pub struct Marks<'d> {
 impl<'d> Marks<'d> {
     /// The tokens of the data, each with the last of the records that has its place; both stand in order.
     pub fn new(alloc: Global, data: Part<'d>, notes: Notes<'_>) -> Result<Marks<'d>, AllocError>
-        ensures tokens { IfOk result (λ marks. items_in marks.list.items ≡ items_of (part_of «data».entry)) }
+        ensures tokens { IfOk result (λ marks.
+            items_in marks.list.items ≡ items_of (part_of «data».entry)) }
         ensures bytes { IfOk result (λ marks. bytes_in marks.list.items ≡ «data».entry.bytes.now) }
         ensures records { IfOk result (λ marks. AreMarks notes.entry.0.now 0 0 marks.list.items) }
     {
@@ -340,7 +342,8 @@ impl<'d> Marks<'d> {
         first(self.list.as_slice(), |mark| place.0 <= mark.place.0)
     }
 
-    /// The latest mark before a number that is sought, since the last one that stops the search. A mark may be both: it is found.
+    /// The latest mark before a number that is sought, since the last one that stops the search. A
+    /// mark may be both: it is found.
     pub fn latest_since<S: Fn(&Mark<'d>) -> bool, T: Fn(&Mark<'d>) -> bool>(
         &self,
         end: usize,

@@ -106,7 +106,8 @@ impl<'a> Note<'a> {
     }
 
     pub fn tuplet(self) -> Option<Tuplet>
-        ensures { result ≡ tuplet_of (number_of self.entry.0.now ACTUAL) (number_of self.entry.0.now NORMAL) }
+        ensures { result ≡
+            tuplet_of (number_of self.entry.0.now ACTUAL) (number_of self.entry.0.now NORMAL) }
     {
         let actual = natural(self.0[ACTUAL]);
         let normal = natural(self.0[NORMAL]);

@@ -1,4 +1,5 @@
-// What became of a sign, a tie, a grace or a chord, each of which waits for a letter, and of what is opened and waits for its end.
+// What became of a sign, a tie, a grace or a chord, each of which waits for a letter, and of what
+// is opened and waits for its end.
 ghost use Rattle.std.specs.Prelude.{◌≡◌};
 ghost use Rattle.marks.specs.Fates.{if_before, of_two, opening_fate, sign_fate, tie_fate, grace_fate, chord_fate, beam_fate, group_fate};
 

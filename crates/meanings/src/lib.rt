@@ -1,5 +1,5 @@
-// The first two layers of the program `layers`: the typed line with what is remarked under it, and its marks, what each is and what became
-// of it.
+// The first two layers of the program `layers`: the typed line with what is remarked under it, and
+// its marks, what each is and what became of it.
 #![tactic(auto)]
 
 mod explanation; // explanation.rt: what was found, and what it means

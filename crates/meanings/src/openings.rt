@@ -60,7 +60,8 @@ impl<'a, 'd> Shown<'a, 'd> {
         }
     }
 
-    /// The number of the bar that is open at a mark, from 1: that of the last record, or the next one where a barline follows that record.
+    /// The number of the bar that is open at a mark, from 1: that of the last record, or the next
+    /// one where a barline follows that record.
     pub(crate) fn bar_at(&self, mark: Mark<'d>) -> u64 {
         let records = self.records_before(mark);
         if records == 0 {

@@ -13,7 +13,8 @@ use view::refusal::Stop;
 /// Lines, and what is remarked under them, stand behind so many columns.
 pub(crate) const MARGIN: usize = 10;
 
-/// A text and its data, where it has any; the marks of the data, the records of its notes, what was found, and why it is refused.
+/// A text and its data, where it has any; the marks of the data, the records of its notes, what was
+/// found, and why it is refused.
 #[derive(Clone, Copy)]
 pub struct Shown<'a, 'd> {
     pub text: &'a [u8],
@@ -26,7 +27,8 @@ pub struct Shown<'a, 'd> {
 }
 
 impl<'a, 'd> Shown<'a, 'd> {
-    /// Whether the records and the findings tell what became of each mark: the text is accepted, and no finding was dropped.
+    /// Whether the records and the findings tell what became of each mark: the text is accepted,
+    /// and no finding was dropped.
     pub(crate) fn tells_all(&self) -> bool
         ensures { IsTrue result ↔
             ((self.now.refusal ≡ None) × (length self.now.findings.now < diagnostic_limit)) }

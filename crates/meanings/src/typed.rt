@@ -63,7 +63,8 @@ fn reaches(part: Part<'_>, offset: Offset) -> bool {
 impl<'a, 'd> Shown<'a, 'd> {
     // ---- the lines of the field form
 
-    /// The lines, with what was found in each; of that which has the data only the beginning, since the data is shown on its own.
+    /// The lines, with what was found in each; of that which has the data only the beginning, since
+    /// the data is shown on its own.
     fn show_lines<W: Write>(&self, out: &mut W) -> io::Result<()> {
         let whole = self.text.split(|byte| *byte == b'\n');
         for (line, bytes) in Lines::new(self.text).zip(whole) {

@@ -5,7 +5,8 @@ use cards::read::CardCounts;
 use reader::read::Counts;
 use view::refusal::Stop;
 
-/// Of a reading: 0 or the refusal's number; the place in the data, 0 where it has none; how many notes, bars and diagnostics are stored.
+/// Of a reading: 0 or the refusal's number; the place in the data, 0 where it has none; how many
+/// notes, bars and diagnostics are stored.
 #[repr(C)]
 #[derive(Clone, Copy, Debug, PartialEq, Eq)]
 pub struct Reading {

@@ -1,5 +1,5 @@
-// The public surface: reads a text into lent records and a lent list of diagnostics; writes records as a catalogue card, and reads it back;
-// says which reader this is.
+// The public surface: reads a text into lent records and a lent list of diagnostics; writes records
+// as a catalogue card, and reads it back; says which reader this is.
 #![tactic(auto)]
 
 pub mod answers;

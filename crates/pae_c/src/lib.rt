@@ -1,4 +1,5 @@
-// What C and other languages call: the functions of `pae`, each with its clauses again. The library is libpae.a, its header include/pae.h.
+// What C and other languages call: the functions of `pae`, each with its clauses again. The library
+// is libpae.a, its header include/pae.h.
 #![tactic(auto)]
 
 ghost use Rattle.std.specs.Prelude.{◌≡◌, length};

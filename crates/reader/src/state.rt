@@ -67,7 +67,8 @@ pub struct Groups {
     pub group: Option<Group>,
 }
 
-/// The reading state: attributes, voice, the lengths in turn, starts; the first record of the open bar and of the last stored one; records of the figure.
+/// The reading state: attributes, voice, the lengths in turn, starts; the first record of the open
+/// bar and of the last stored one; records of the figure.
 #[derive(Clone, Copy)]
 pub struct State<'d> {
     pub attributes: Attributes,

@@ -72,7 +72,8 @@ fn is_diagnostic(d: &Diagnostic) -> bool {
         && 0 <= d.end
 }
 
-/// The counted cells hold a diagnostic each, the further ones that are lent are 0, and behind these the rubbish still stands.
+/// The counted cells hold a diagnostic each, the further ones that are lent are 0, and behind these
+/// the rubbish still stands.
 pub(crate) fn are_diagnostics_right(list: &[Diagnostic], count: u32, lent: usize) -> bool {
     let (lent, behind) = list.split_at(lent.min(list.len()));
     let (counted, blank) = lent.split_at((count as usize).min(lent.len()));

@@ -1,5 +1,5 @@
-// Runs the cases of a table, on standard input, through `pae_read` itself, and holds what comes, and every lent cell, against it.
-// README.md has the table's format.
+// Runs the cases of a table, on standard input, through `pae_read` itself, and holds what comes,
+// and every lent cell, against it. README.md has the table's format.
 #![tactic(auto)]
 
 mod cells; // cells.rt: what is lent, before and after a call
@@ -19,8 +19,8 @@ use table::{Case, Lent, Outcome};
 /// The table has at most so many bytes.
 const TABLE: usize = 65536;
 
-/// Lent at most, since a reading has no heap: 40,000 notes, 1,000 bars, 1,000 notes of a figure, 2,000 diagnostics. Many more notes don't
-/// fit a program's stack.
+/// Lent at most, since a reading has no heap: 40,000 notes, 1,000 bars, 1,000 notes of a figure,
+/// 2,000 diagnostics. Many more notes don't fit a program's stack.
 const NOTES: usize = 40000 * NOTE;
 
 const BARS: usize = 1000 * BAR;
@@ -80,7 +80,8 @@ fn call_lent(lent: Lent, text: &[u8]) -> Told {
     call(lent, text, &mut notes, &mut bars, &mut figure, &mut list)
 }
 
-/// The case as the table has it, what came, whether the cells are as they must be, and whether all is as the table says.
+/// The case as the table has it, what came, whether the cells are as they must be, and whether all
+/// is as the table says.
 fn print_row<W: Write>(out: &mut W, case: Case<'_>, told: Told) -> io::Result<()> {
     out.write_all(case.name)?;
     out.write_all(b"|")?;

@@ -23,7 +23,8 @@ fn shown(character: &[u8]) -> char {
     }
 }
 
-/// A text, shown character by character: a space for a blank, `?` for a control character or a byte that is part of none.
+/// A text, shown character by character: a space for a blank, `?` for a control character or a byte
+/// that is part of none.
 #[derive(Clone, Copy)]
 pub struct Text<'t>(pub &'t [u8]);
 

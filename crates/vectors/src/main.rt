@@ -31,8 +31,8 @@ const FIGURE: usize = 512 * NOTE;
 /// Lent for a card: more than those records take.
 const CARD: usize = 65536;
 
-/// How many texts there are, how many of them are read otherwise and are refused, how many readings come back from their cards, and what
-/// the readings hold.
+/// How many texts there are, how many of them are read otherwise and are refused, how many readings
+/// come back from their cards, and what the readings hold.
 #[derive(Clone, Copy)]
 struct Tally {
     texts: u64,

@@ -158,7 +158,8 @@ impl<'m, 'd> Letter<'m, 'd> {
         writeln!(out, "    alteration  {alteration}, {cause}{alone}")
     }
 
-    /// The nearest key and the nearest sign on the same step, where they do not reach the letter and would alter it otherwise.
+    /// The nearest key and the nearest sign on the same step, where they do not reach the letter
+    /// and would alter it otherwise.
     fn show_why_not<W: Write>(self, out: &mut W) -> io::Result<()> {
         if matches!(self.cause, Cause::Sign(_)) {
             return Ok(());
@@ -187,7 +188,8 @@ impl<'m, 'd> Letter<'m, 'd> {
         }
     }
 
-    /// The last letter on the same step that has a sign, where it is not the cause and the sign would alter this one otherwise.
+    /// The last letter on the same step that has a sign, where it is not the cause and the sign
+    /// would alter this one otherwise.
     fn unreached(self) -> Option<Signed<'d>> {
         let other = self.before.signed(self.pitch.step)?;
         if let Cause::Letter(cause) = self.cause

@@ -13,7 +13,8 @@ use std::io::Write;
 use tokens::cut::Place;
 use tokens::kinds::{Figure, Token};
 
-/// The key that the fields set: an alteration for each step from C, and the line of the last keysig field, if there is one.
+/// The key that the fields set: an alteration for each step from C, and the line of the last keysig
+/// field, if there is one.
 #[derive(Clone, Copy)]
 pub struct KeyField {
     pub alters: [i8; 7],
