@@ -1,11 +1,12 @@
-// The marks of the data, its tokens, and the look-back over them: over the marks before a letter, the latest first.
-ghost use Rattle.std.specs.Prelude.{◌≡◌, ◌+◌, ◌<◌, ◌≤◌, [], false, length, take, drop, IfOk, IfSome, is_some, ◌&&◌};
-ghost use Rattle.rules.specs.Tokens.{items_of};
+// The marks of the data, its tokens, and the look-back over them: over the marks before a letter,
+// the latest first.
+ghost use Rattle.std.specs.Prelude.{◌≡◌, ◌+◌, ◌<◌, ◌≤◌, false, length, take, drop, IfOk, IfSome, is_some, ◌&&◌};
+ghost use Rattle.rules.specs.Tokens.{items_of, token_of};
 ghost use Rattle.scan.specs.Parts.{part_of};
 ghost use Rattle.tokens.specs.Kinds.{token_in};
 ghost use Rattle.marks.specs.Kinds.{is_letter, is_octave, is_sign, is_chord, is_whole_bars, is_barline, is_pattern, is_clef, is_key, is_grace, is_grace_group, is_rest, is_figure_mark, opens_beam, closes_beam, opens_group, closes_group};
 ghost use Rattle.marks.specs.Values.{octave_of, accidental_of, step_of, pattern_of, clef_of, key_of, grace_of, grace_group_of, marking_of};
-ghost use Rattle.marks.specs.Marks.{items_in, bytes_in, last_of, AreMarks, took_length};
+ghost use Rattle.marks.specs.Marks.{items_in, bytes_in, last_of, IsMark, AreMarks, took_length};
 ghost use Rattle.marks.specs.LookBack.{Answers, latest_of, count_of, first_of, stands_at};
 
 use crate::records::Notes;
@@ -35,6 +36,35 @@ pub struct Mark<'d> {
 }
 
 impl<'d> Mark<'d> {
+    /// The mark of a token, by its number and its bytes; it stored those of the records from
+    /// `first` on that have its place.
+    pub fn new(
+        number: usize,
+        span: Span<'d>,
+        text: &'d [u8],
+        notes: Notes<'_>,
+        first: usize,
+    ) -> Mark<'d>
+        requires { first ≤ length notes.0.now }
+        ensures mark { IsMark notes.entry.0.now number first result }
+        ensures place { result.place ≡ span.entry.place }
+        ensures start { result.start ≡ span.entry.offset }
+        ensures text { result.text ≡ text.entry }
+        ensures token { token_in result.token ≡ token_of span.entry.first span.entry.value.now }
+    {
+        let stored = last_of(first, notes.end_at(first, span.place));
+        let token = span.decode();
+        Mark {
+            number,
+            place: span.place,
+            start: span.offset,
+            text,
+            token,
+            stored,
+            took_length: took_length(token, notes, stored),
+        }
+    }
+
     // A method for each kind that is asked for: no generic function takes a pattern.
 
     /// The octave that it sets; one out of range is none.
@@ -307,22 +337,9 @@ impl<'d> Marks<'d> {
         let mut rest = data.bytes;
         let mut next = 0;
         for span in Tokens::new(data) {
-            let number = list.len();
             let (text, behind) = rest.split_at(1 + span.value.len());
-            let first = next;
-            next = notes.end_at(first, span.place);
-            let stored = last_of(first, next);
-            let token = span.decode();
-            let mark = Mark {
-                number,
-                place: span.place,
-                start: span.offset,
-                text,
-                token,
-                stored,
-                took_length: took_length(token, notes, stored),
-            };
-            list.push(mark)?;
+            list.push(Mark::new(list.len(), span, text, notes, next))?;
+            next = notes.end_at(next, span.place);
             rest = behind;
         }
         Ok(Marks { list })
