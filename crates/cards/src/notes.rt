@@ -235,6 +235,8 @@ fn are_marks(count: u8, marks: u8) -> bool
     u32::from(marks) < 1 << count
 }
 
+// Functions, here and below: `From<NoteKind> for u8` would stand in stores, and only a card has it as a byte.
+
 /// The number of a kind.
 pub fn kind_number(kind: NoteKind) -> u8
     ensures { result ≡ kind_number kind }

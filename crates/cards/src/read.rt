@@ -74,6 +74,7 @@ impl Note {
     {
         let mut words = [0; NOTE];
         words[..FIRST_PITCH].copy_from_slice(&self.first_words(bar));
+        // By number: the record's words are changed in place.
         for i in 0..self.pitches.count {
             let at = FIRST_PITCH + i * PITCH;
             words[at..at + PITCH].copy_from_slice(&self.pitches.list[i].words());
@@ -229,6 +230,7 @@ impl<'a> CardReader<'a> {
         ensures same_bars { SameCells bars.old bars.new }
         ensures read { ReadsCard W.form self.old result notes.new.cells.now bars.new.cells.now }
     {
+        // The steps don't say which refusal theirs is.
         let Ok(counts) = self.records::<W>(notes, bars) else {
             return Err(CardError::Invalid);
         };

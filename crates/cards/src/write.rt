@@ -80,6 +80,7 @@ impl<'a> CardWriter<'a> {
         ensures same_card { self.new.card.ghost_name ≡ self.old.card.ghost_name }
         ensures puts { Puts W.form notes.now bars.now self.old.card.now result self.new.card.now }
     {
+        // The steps don't say which refusal theirs is.
         let Ok(()) = self.records::<W>(notes, bars) else {
             return Err(CardError::Invalid);
         };

@@ -81,26 +81,39 @@ pub struct State<'d> {
 }
 
 impl<'d> State<'d> {
+    // The orders and limits stand here too, under their published names (D-112).
+
+    /// The order of sharps in a key.
     pub const SHARPS: [u8; 7] = Key::SHARPS;
 
+    /// The order of flats in a key.
     pub const FLATS: [u8; 7] = Key::FLATS;
 
+    /// A text has at most so many bytes.
     pub const MAX_INPUT_BYTES: usize = 65_535;
 
+    /// A reading has at most so many notes.
     pub const MAX_NOTES: usize = MAX_NOTES;
 
+    /// So many diagnostics are stored, and at least as many cells lent.
     pub const MAX_DIAGNOSTICS: usize = MAX_DIAGNOSTICS;
 
+    /// A note has at most so many pitches.
     pub const MAX_PITCHES: usize = MAX_PITCHES;
 
+    /// A note has at most so many marks.
     pub const MAX_MARKS: usize = MAX_MARKS;
 
+    /// A length has at most so many dots.
     pub const MAX_DOTS: usize = Length::MAX_DOTS;
 
+    /// A group counts at most so far.
     pub const MAX_COUNT: u16 = MAX_COUNT;
 
+    /// `=` counts at most so far.
     pub const MAX_WHOLE_BARS: u16 = MAX_WHOLE_BARS;
 
+    /// The highest octave.
     pub const MAX_OCTAVE: usize = Octave::MAX;
 
     /// A fresh reading starts in octave 4 with a quarter, and with these attributes.

@@ -49,7 +49,7 @@ fn timed_in(part: &[i32], count: usize) -> Timed
     ensures last_within { result.last ≤ count - 1 }
 {
     let mut timed = Timed { count: 0, last: 0 };
-    // By number, as below, where the records are changed.
+    // By number, which is a part of the answer; chunks would have to be counted, and cut off, too.
     for k in 0..count {
         let at = k * NOTE;
         if is_timed(&part[at..at + NOTE]) {

@@ -17,26 +17,37 @@ use tokens::rhythm::{Length, Octave, Step};
 /// Where a note's words stand.
 pub const PLACE: usize = 0;
 
+/// What it is, by its number.
 pub const KIND: usize = 1;
 
+/// The duration's number.
 pub const DURATION: usize = 2;
 
+/// How many dots.
 pub const DOTS: usize = 3;
 
+/// 1 where a tie starts, 2 where one ends, 3 for both.
 pub const TIES: usize = 4;
 
+/// 1 where a beam begins, 2 where it goes on, 3 where it ends.
 pub const BEAM: usize = 5;
 
+/// A tuplet's count, 0 for none.
 pub const ACTUAL: usize = 6;
 
+/// A tuplet's normal count.
 pub const NORMAL: usize = 7;
 
+/// How many marks.
 pub const MARK_COUNT: usize = 8;
 
+/// A bit a mark, the first one lowest: 1 for a trill, 0 for a fermata.
 pub const MARKS: usize = 9;
 
+/// How many pitches.
 pub const PITCH_COUNT: usize = 10;
 
+/// The number of its bar, from 1.
 pub const BAR_NUMBER: usize = 11;
 
 /// What a record is.

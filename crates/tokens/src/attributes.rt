@@ -104,6 +104,7 @@ fn is_mensural(value: &[u8]) -> bool
 impl ClefValue {
     ghost use Rattle.tokens.specs.Attributes.{clef_value};
 
+    /// What a clef's value says.
     #[tactic(auto, using(crate::proofs::ClefLaws::clef_laws))]
     pub fn new(value: &[u8]) -> ClefValue
         ensures { clef_value result ≡ clef_of value.now }
@@ -264,10 +265,13 @@ fn is_pure(value: &[u8], order: &[u8], other: u8) -> bool
 impl Key {
     ghost use Rattle.tokens.specs.Attributes.{key_value};
 
+    /// The letters of sharps in a key's order.
     pub const SHARPS: [u8; 7] = *b"FCGDAEB";
 
+    /// The letters of flats in a key's order.
     pub const FLATS: [u8; 7] = *b"BEADGCF";
 
+    /// What a key's value says.
     #[tactic(auto, using(crate::proofs::KeyLaws::key_laws))]
     pub fn new(value: &[u8]) -> Key
         ensures { key_value result ≡ key_of value.now }
@@ -387,6 +391,7 @@ impl Meter {
         })
     }
 
+    /// The meter of a value, if it is one.
     #[tactic(auto, using(crate::proofs::MeterLaws::meter_laws))]
     pub fn new(value: &[u8]) -> Option<Meter>
         ensures { meter_in result ≡ meter_of value.now }

@@ -85,6 +85,7 @@ pub struct Octave {
 impl Octave {
     ghost use Rattle.tokens.specs.Rhythm.{octave_in};
 
+    /// The highest octave.
     pub const MAX: usize = 9;
 
     /// A run of `'` sets octave 3 and its size.
@@ -166,6 +167,7 @@ impl Accidental {
         }
     }
 
+    /// A run of `x`.
     pub(crate) fn sharpened(size: usize) -> Accidental
         ensures { alter_of result ≡ sharpened size }
     {
@@ -176,6 +178,7 @@ impl Accidental {
         }
     }
 
+    /// A run of `b`.
     pub(crate) fn flattened(size: usize) -> Accidental
         ensures { alter_of result ≡ flattened size }
     {
@@ -236,6 +239,7 @@ pub struct Barline {
 impl Barline {
     ghost use Rattle.tokens.specs.Rhythm.{barline_in};
 
+    /// `/`
     pub const PLAIN: Barline = Barline {
         right: Edge::Plain,
         left: Edge::Plain,
@@ -360,13 +364,16 @@ pub struct Length {
 }
 
 impl Length {
+    /// A length has at most so many dots.
     pub const MAX_DOTS: usize = 3;
 
+    /// A quarter.
     pub const QUARTER: Length = Length {
         duration: Duration::Quarter,
         dots: 0,
     };
 
+    /// An eighth.
     pub const EIGHTH: Length = Length {
         duration: Duration::Eighth,
         dots: 0,
@@ -484,6 +491,7 @@ impl<'d> Kept<'d> {
         lengths[0] = pattern.length();
         let mut rest = pattern.behind();
         let mut count = 1;
+        // It ends with the pattern, or where no more are kept: no iterator ends by either.
         while count < KEPT {
             let Some(next) = rest.pattern() else {
                 break;
