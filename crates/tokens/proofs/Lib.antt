@@ -8,3 +8,4 @@ pub mod MeterLaws
 pub mod KindLaws
 pub mod CycleLaws
 pub mod PlainLaws
+pub mod DotLaws

@@ -6,6 +6,7 @@ ghost use Rattle.rules.specs.Tokens.{slashes, colons};
 ghost use Rattle.tokens.specs.Whole.{is_rest};
 ghost use Rattle.rules.specs.Values.{step_of, duration_of, raised_octave, lowered_octave};
 ghost use Rattle.rules.specs.Values.{sharpened, flattened, normal_of, quarter};
+ghost use Rattle.rules.specs.Values.{capped, dots_at, pattern_of};
 
 use crate::numbers::UnknownWord;
 use scan::classes::Class;
@@ -380,6 +381,21 @@ impl Length {
     };
 }
 
+// Digits and dots without the dots at their end that say nothing: three count, and each turn of a
+// long pattern would pass them all.
+fn few_dots(rest: &[u8]) -> &[u8]
+    requires { IsTrue (every is_duration rest.now) }
+    ensures whole { IsTrue (every is_duration result.now) }
+    ensures dots { capped (dots_at result.now) ≡ capped (dots_at rest.entry.now) }
+    ensures lengths { pattern_of result.now ≡ pattern_of rest.entry.now }
+{
+    let mut few = rest;
+    while few.ends_with(b"....") {
+        few = &few[..few.len() - 1];
+    }
+    few
+}
+
 /// The lengths of a digit token, one at least: its first digit's duration, and the digits and dots
 /// behind it.
 #[derive(Clone, Copy)]
@@ -391,7 +407,6 @@ pub struct Pattern<'d> {
 
 impl<'d> Pattern<'d> {
     ghost use Rattle.tokens.specs.Rhythm.{lengths_of, length_in, lengths_in, first_of, rest_of};
-    ghost use Rattle.rules.specs.Values.{pattern_of};
 
     /// Before any digit token: a quarter.
     pub fn new() -> Pattern<'d>
@@ -411,7 +426,7 @@ impl<'d> Pattern<'d> {
     {
         Pattern {
             first: Duration::of_digit(digit),
-            rest,
+            rest: few_dots(rest),
         }
     }
 
