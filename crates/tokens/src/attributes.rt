@@ -48,6 +48,8 @@ impl Clef {
     }
 }
 
+// An impl for each type here and below: what a macro or a derive writes has no `from_gives`, and
+// callers would not learn the numbers.
 impl From<Clef> for i32 {
     ghost use Rattle.tokens.specs.Words.{WritesBy};
     ghost use Rattle.tokens.specs.Clefs.{clef_number};
@@ -192,6 +194,8 @@ fn name(alters: &mut [i8; 7], sign: Option<Sign>, byte: u8)
     }
 }
 
+// Here and below a loop carries the sign: an iterator of signs and bytes would be longer than the
+// three lines that it takes, and need laws of its own.
 fn alters_of(value: &[u8]) -> [i8; 7]
     ensures { result ≡ alters_from no_alters none value.now }
 {
