@@ -496,17 +496,15 @@ impl<'d> Kept<'d> {
     {
         lengths[0] = pattern.length();
         let mut rest = pattern.behind();
-        let mut count = 1;
-        // No `for`: it ends with the room or with the pattern, and what is left of that is kept.
-        while count < KEPT {
+        // By number: where the pattern ends, it is how many are kept.
+        for count in 1..KEPT {
             let Some(next) = rest.pattern() else {
-                break;
+                return Kept { count, rest };
             };
             lengths[count] = next.length();
             rest = next.behind();
-            count += 1;
         }
-        Kept { count, rest }
+        Kept { count: KEPT, rest }
     }
 }
 
