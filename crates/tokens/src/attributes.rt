@@ -113,16 +113,11 @@ impl ClefValue {
         ensures { clef_value result ≡ clef_of value.now }
     {
         let mensural = is_mensural(value);
-        if value.len() == 3 && (mensural || value[1] == b'-') {
-            return ClefValue {
-                clef: Clef::named(value[0], value[2]),
-                mensural,
-            };
-        }
-        ClefValue {
-            clef: None,
-            mensural,
-        }
+        let clef = match value {
+            [shape, middle, line] if mensural || *middle == b'-' => Clef::named(*shape, *line),
+            _ => None,
+        };
+        ClefValue { clef, mensural }
     }
 }
 
