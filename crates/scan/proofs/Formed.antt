@@ -1,4 +1,5 @@
--- A text is well-formed by the table of its bytes' ranges exactly where it is UTF-8 in std's sense, the encoding of some scalar values.
+-- A text is well-formed by the table of its bytes' ranges exactly where it is UTF-8 in std's sense,
+-- the encoding of some scalar values.
 use Rattle.std.proofs.Common.{◌≡◌, ◌+◌, ◌-◌, ◌<◌, ◌≤◌, ◌*◌, ◌/◌, ◌%◌, ◌++◌, ℕ, true, false, List, [], ◌∷◌, length, take, drop, get_or, arith}
 use Rattle.std.specs.Prelude.{◌&&◌, leb, ltb, zero, suc, refl}
 use Rattle.std.specs.Str.{IsUtf8}

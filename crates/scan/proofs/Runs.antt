@@ -1,11 +1,14 @@
 -- Runs and beginnings in std's words are those in the rules' words.
-use Rattle.std.proofs.Common.{◌≡◌, ◌+◌, ℕ, Bool, true, false, List, [], ◌∷◌, arith, cond}
+use Rattle.std.proofs.Common.{◌≡◌, ◌+◌, ℕ, Bool, true, false, List, [], ◌∷◌, length, arith, cond}
 use Rattle.std.specs.Prelude.{◌&&◌, not, eqb, refl, count_by, if◌then◌else◌}
 use Rattle.std.specs.List.{prefix_len, starts_with}
 use Rattle.std.proofs.lemmas.Bool.Decides.{nat_tests}
 use mathlib.Core.Path.{ap, sym, ◌∙◌}
+use mathlib.Core.Bool.{and-false}
+use lib.Dec.{eqb-zero-suc, eqb-suc-zero, eqb-suc-suc}
 use Rattle.std.proofs.lemmas.List.Recursion.{is_count_by}
-use Rattle.rules.specs.Text.{run_length, begins}
+use Rattle.std.specs.Cmp.Lexicographic.{pointwise}
+use Rattle.rules.specs.Text.{run_length, begins, is_text}
 use Rattle.rules.specs.Characters.{characters_in, continues}
 
 pub prefix_len_is : (p : ℕ → Bool) (xs : List ℕ) → prefix_len p xs ≡ run_length p xs
@@ -19,6 +22,18 @@ pub starts_with_is : (ks xs : List ℕ) → starts_with eqb xs ks ≡ begins ks 
 starts_with_is [] xs = refl
 starts_with_is (k ∷ ks) [] = refl
 starts_with_is (k ∷ ks) (x ∷ xs) = (λ i. turned k x i && starts_with_is ks xs i)
+
+swapped : (s t u : Bool) → (s && (t && u)) ≡ (t && (s && u))
+swapped true t u = refl
+swapped false t u = sym (and-false t)
+
+pub equal_is : (ks xs : List ℕ) → pointwise eqb xs ks ≡ is_text ks xs
+equal_is [] [] = refl
+equal_is [] (x ∷ xs) = sym (ap (λ (t : Bool). t && true) (eqb-suc-zero (length xs)))
+equal_is (k ∷ ks) [] = sym (ap (λ (t : Bool). t && false) (eqb-zero-suc (length ks)))
+equal_is (k ∷ ks) (x ∷ xs) =
+    ap (λ (t : Bool). eqb x k && t) (equal_is ks xs) ∙ swapped (eqb x k) (eqb (length xs) (length ks)) (begins ks xs)
+    ∙ sym (ap (λ (t : Bool). t && (eqb x k && begins ks xs)) (eqb-suc-suc (length xs) (length ks)))
 
 pub count_by_is : (xs : List ℕ) → characters_in xs ≡ count_by (λ b. not (continues b)) xs
 unfolding characters_in

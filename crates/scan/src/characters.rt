@@ -22,7 +22,7 @@ pub fn is_utf8(text: &[u8]) -> bool
 fn is_continuation(byte: u8) -> bool
     ensures { result ≡ continues byte }
 {
-    matches!(byte, 128..=191)
+    Class::Continuations.contains(byte)
 }
 
 /// How many characters these bytes are.

@@ -6,12 +6,18 @@ ghost use Rattle.rules.specs.Text.{is_note_letter, run_length, begins, is_text};
 /// A class of bytes.
 #[derive(Clone, Copy, Debug, PartialEq, Eq)]
 pub enum Class {
+    /// This byte.
     Is(u8),
+    /// Each other byte.
     Not(u8),
+    /// Those that continue a character.
     Continuations,
     Digits,
+    /// Digits and dots.
     Durations,
+    /// Those of a key's value.
     KeyBytes,
+    /// Those of a meter's value.
     MeterBytes,
     Letters,
 }
@@ -60,7 +66,7 @@ pub fn is_note_letter(byte: u8) -> bool
     matches!(byte, b'A'..=b'G')
 }
 
-/// Whether `rest` begins with `with`.
+/// Whether `rest` begins with `with`: std's, in the rules' words.
 #[tactic(auto, using(crate::proofs::Runs::starts_with_is))]
 pub fn starts_with(rest: &[u8], with: &[u8]) -> bool
     ensures { result ≡ begins with.now rest.now }
@@ -68,10 +74,10 @@ pub fn starts_with(rest: &[u8], with: &[u8]) -> bool
     rest.starts_with(with)
 }
 
-/// Whether `value` is exactly `text`.
-#[tactic(auto, using(crate::proofs::Runs::starts_with_is))]
+/// Whether `value` is exactly `text`: std's `==`, in the rules' words.
+#[tactic(auto, using(crate::proofs::Runs::equal_is))]
 pub fn is_text(value: &[u8], text: &[u8]) -> bool
     ensures { result ≡ is_text text.now value.now }
 {
-    value.len() == text.len() && value.starts_with(text)
+    value == text
 }

@@ -26,6 +26,7 @@ impl<'t> Part<'t> {
     ghost use Rattle.scan.specs.Parts.{part_of};
 
     /// The whole of a text.
+    // Its length is asked for: the text is the caller's slice, and a part says it by its type.
     pub fn new(text: &'t [u8]) -> Part<'t>
         requires { length text.now < 2 ^ 31 }
         ensures start { result.start.0 ≡ 0 }
@@ -88,6 +89,7 @@ impl<'t> Lines<'t> {
     ghost use Rattle.rules.specs.Fields.{lines_of};
 
     /// All lines.
+    // Its length is asked for, as of a part.
     pub fn new(text: &'t [u8]) -> Lines<'t>
         requires { length text.now < 2 ^ 31 }
         ensures { lines_left result [] ≡ lines_of text.entry.now }

@@ -1,4 +1,5 @@
--- A test that antt computes at every number below a bound, and what it says of each. Assumes nothing.
+-- A test that antt computes at every number below a bound, and what it says of each.
+-- Assumes nothing.
 use Prim.Native.Nat.{ℕ, zero, suc, ◌+◌, ◌-◌, ◌≤◌, ◌<◌}
 use native.Mathlib.Nat.{not-suc-le-zero}
 use native.Mathlib.Omega.{arith}

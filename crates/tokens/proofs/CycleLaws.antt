@@ -1,7 +1,7 @@
 -- Lengths that notes take in turn, the first ones kept.
 use Rattle.std.specs.Prelude.{ℕ, ◌+◌, ◌<◌, ◌≤◌, ◌≡◌, List, [], ◌∷◌, ◌++◌, length, map, take, drop, slice_index_or, slice_set, refl}
-use Rattle.std.proofs.Common.{sym, append_assoc, add-one}
-use Rattle.std.proofs.lemmas.List.{map-append, take_more_set, drop_all, length-take-le, get_or-take}
+use Rattle.std.proofs.Common.{append_assoc, add-one}
+use Rattle.std.proofs.lemmas.List.{map-append, take_more_set, length-take-le, get_or-take}
 use Rattle.std.proofs.Math.Seq.{drop-cons}
 use Rattle.rules.specs.Values as rules
 use Rattle.tokens.specs.declared.rhythm.Length.{Length}
@@ -18,10 +18,6 @@ kept_more xs i x ys h = rw (take_more_set xs i x h, map-append, append_assoc) re
 -- one is taken
 kept_next : (xs : List Length) (n i : ℕ) (d : Length) (ys : List rules.Length) → i < n → n ≤ length xs → map length_in (drop i (take n xs)) ++ ys ≡ length_in (slice_index_or xs i d) ∷ (map length_in (drop (i + 1) (take n xs)) ++ ys)
 kept_next xs n i d ys h k = rw (drop-cons (take n xs) i d (rw (length-take-le n xs k) h), get_or-take n xs i d h, add-one) refl
-
--- none is left
-kept_none : (xs : List Length) (n i : ℕ) (ys : List rules.Length) → n ≤ i → n ≤ length xs → map length_in (drop i (take n xs)) ++ ys ≡ ys
-kept_none xs n i ys h k = rw (drop_all i (take n xs) (rw (length-take-le n xs k) h)) refl
 
 -- ---- patterns
 
@@ -45,20 +41,3 @@ module _ (xs : List Length) (n i : ℕ) (d : Length) (whole : n ≤ length xs) w
 
   pub left_kept : (all : List rules.Length) (rest : Rest) → i < n → lengths_after all (anew all (lengths_with (drop i (take n xs)) rest)) ≡ anew all (lengths_with (drop (i + 1) (take n xs)) rest)
   left_kept all rest h = rw (kept_next xs n i d (lengths_in rest) h whole) (after_first all (length_in (slice_index_or xs i d)) (lengths_with (drop (i + 1) (take n xs)) rest))
-
-  -- one of the text is next
-  pub next_text : (all : List rules.Length) (next : Rest) (p : Pattern) → n ≤ i → lengths_of p ≡ lengths_in next → next_length (anew all (lengths_with (drop i (take n xs)) next)) ≡ first_of p
-  next_text all next p h e = rw (kept_none xs n i (lengths_in next) h whole, sym e) refl
-
-  pub left_text : (all : List rules.Length) (next : Rest) (p : Pattern) (r : Rest) → n ≤ i → lengths_of p ≡ lengths_in next → lengths_in r ≡ rest_of p → lengths_after all (anew all (lengths_with (drop i (take n xs)) next)) ≡ anew all (lengths_with (drop i (take n xs)) r)
-  left_text all next p r h e f = rw (kept_none xs n i (lengths_in next) h whole, kept_none xs n i (lengths_in r) h whole, sym e, f) (after_first all (first_of p) (rest_of p))
-
-  -- the first one is next, anew
-  pub next_anew : (rest next : Rest) → n ≤ i → 0 < n → lengths_in next ≡ [] → next_length (anew (lengths_with (take n xs) rest) (lengths_with (drop i (take n xs)) next)) ≡ length_in (slice_index_or xs 0 d)
-  next_anew rest next h some e = rw (kept_none xs n i (lengths_in next) h whole, e, kept_next xs n 0 d (lengths_in rest) some whole) refl
-
-  pub left_anew : (rest next : Rest) → n ≤ i → 0 < n → lengths_in next ≡ [] → lengths_after (lengths_with (take n xs) rest) (anew (lengths_with (take n xs) rest) (lengths_with (drop i (take n xs)) next)) ≡ anew (lengths_with (take n xs) rest) (lengths_with (drop 1 (take n xs)) rest)
-  left_anew rest next h some e =
-      let l = length_in (slice_index_or xs 0 d) in
-      let ls = lengths_with (drop 1 (take n xs)) rest in
-      rw (kept_none xs n i (lengths_in next) h whole, e, kept_next xs n 0 d (lengths_in rest) some whole) (after_first (l ∷ ls) l ls)

@@ -1,4 +1,5 @@
--- Laws of a key's value: at a place of it, of its letters against an order, and of the whole. Assumes nothing.
+-- Laws of a key's value: at a place of it, of its letters against an order, and of the whole.
+-- Assumes nothing.
 use Rattle.std.specs.Prelude.{if◌then◌else◌}
 use Prim.Native.Nat.{ℕ, suc, ◌+◌, ◌≤◌, ◌<◌}
 use native.Mathlib.Omega.{arith}

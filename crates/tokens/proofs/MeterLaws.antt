@@ -1,6 +1,6 @@
--- Laws of a meter's value: a `+` in front, a power of two, and the whole by its tests. Assumes nothing.
-use Prim.Native.Nat.{ℕ, ◌+◌, ◌-◌, ◌<◌, ◌≤◌}
-use native.Mathlib.Omega.{arith}
+-- Laws of a meter's value: a `+` in front, a power of two, and the whole by its tests.
+-- Assumes nothing.
+use Prim.Native.Nat.{ℕ, ◌+◌, ◌<◌, ◌≤◌}
 use mathlib.Core.Path.{◌≡◌, refl}
 use mathlib.Core.Bool.{Bool, true, false, beq, false≢true}
 use mathlib.Core.Option.{none, some}
@@ -8,15 +8,11 @@ use mathlib.Core.List.{List}
 use borrow.Author.Tests.{lt-ltb, le-ltb}
 use lib.Count.{ones, ones_in}
 use lib.Dec.{eqb}
-use lib.ListN.{length, take, drop, length-drop}
-use lib.Seq.{take_all}
+use lib.ListN.{length, take, drop}
 use Rattle.rules.specs.Text.{bytes, is_text}
 use Rattle.rules.specs.Values.{after_plus, count_of, is_power_of_two, slash_at, plain_meter, meter_of}
+use Rattle.scan.proofs.Trims.{part_to_end}
 use Rattle.tokens.proofs.Below.{below}
-
--- the part from a to the end
-pub part_to_end : (xs : List ℕ) (a : ℕ) → take (length xs - a) (drop a xs) ≡ drop a xs
-part_to_end xs a = take_all (length xs - a) (drop a xs) (omega (arith, length-drop a xs))
 
 -- one bit is set exactly in the powers of two
 power_test : ℕ → Bool

@@ -1,4 +1,5 @@
--- Laws of `number_to` at a digit, at another byte, past the limit and at the end; of the counts that it makes.
+-- Laws of `number_to` at a digit, at another byte, past the limit and at the end; of the counts that
+-- it makes.
 use Rattle.std.specs.Prelude.{if◌then◌else◌}
 use Prim.Native.Nat.{ℕ, ◌+◌, ◌-◌, ◌*◌, ◌<◌, ◌≤◌}
 use native.Mathlib.Omega.{arith}

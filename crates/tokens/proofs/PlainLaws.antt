@@ -1,4 +1,5 @@
--- Only a clef's value and a character of several bytes have bytes that continue a character. Assumes nothing.
+-- Only a clef's value and a character of several bytes have bytes that continue a character.
+-- Assumes nothing.
 use Rattle.std.specs.Prelude.{if◌then◌else◌}
 use Prim.Native.Nat.{ℕ, suc, ◌+◌, ◌-◌, ◌<◌}
 use Prim.Native.Char.{code}
@@ -46,7 +47,8 @@ begins-begun (k ∷ ks) (x ∷ xs) l e =
 -- ---- tokens
 
 module _ (b : ℕ) (bs : List ℕ) where
-  -- of the token at the start of the text, were it of this size, each byte behind the first begins a character
+  -- of the token at the start of the text, were it of this size, each byte behind the first begins
+  -- a character
   abbrev Plain : ℕ → Type 0
   Plain size = Begun (size - 1) bs
 

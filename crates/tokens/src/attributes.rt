@@ -3,7 +3,8 @@ ghost use Rattle.std.specs.Prelude.{◌≡◌, not, ◌&&◌, [], ◌∷◌, len
 ghost use Rattle.std.proofs.Math.Option.{none};
 ghost use Rattle.rules.specs.Text.{begins, has};
 ghost use Rattle.rules.specs.Values.{clef_named, is_mensural, clef_of, is_power_of_two};
-ghost use Rattle.rules.specs.Values.{alters_from, no_alters, letters_from, all_expected, key_of};
+ghost use Rattle.rules.specs.Values.{alters_from, no_alters, letters_from, all_expected};
+ghost use Rattle.rules.specs.Values.{key_with, key_of};
 ghost use Rattle.rules.specs.Values.{sign_after, is_named, is_expected, named};
 ghost use Rattle.rules.specs.Values.{after_plus, count_of, plain_meter, meter_of};
 ghost use Rattle.tokens.specs.Numbers.{number_in};
@@ -48,6 +49,8 @@ impl Clef {
     }
 }
 
+// An impl for each type here and below: what a macro or a derive writes has no `from_gives`, and
+// callers would not learn the numbers.
 impl From<Clef> for i32 {
     ghost use Rattle.tokens.specs.Words.{WritesBy};
     ghost use Rattle.tokens.specs.Clefs.{clef_number};
@@ -110,16 +113,11 @@ impl ClefValue {
         ensures { clef_value result ≡ clef_of value.now }
     {
         let mensural = is_mensural(value);
-        if value.len() == 3 && (mensural || value[1] == b'-') {
-            return ClefValue {
-                clef: Clef::named(value[0], value[2]),
-                mensural,
-            };
-        }
-        ClefValue {
-            clef: None,
-            mensural,
-        }
+        let clef = match value {
+            [shape, middle, line] if mensural || *middle == b'-' => Clef::named(*shape, *line),
+            _ => None,
+        };
+        ClefValue { clef, mensural }
     }
 }
 
@@ -192,6 +190,8 @@ fn name(alters: &mut [i8; 7], sign: Option<Sign>, byte: u8)
     }
 }
 
+// Here and below a loop carries the sign: an iterator of signs and bytes would be longer than the
+// three lines that it takes, and need laws of its own.
 fn alters_of(value: &[u8]) -> [i8; 7]
     ensures { result ≡ alters_from no_alters none value.now }
 {
@@ -271,41 +271,32 @@ impl Key {
     /// The letters of flats in a key's order.
     pub const FLATS: [u8; 7] = *b"BEADGCF";
 
+    /// The alterations of a value, with these fifths.
+    fn with(value: &[u8], fifths: i8, standard: bool) -> Key
+        ensures { key_value result ≡ key_with value.now fifths standard }
+    {
+        Key {
+            alters: alters_of(value),
+            fifths,
+            standard,
+        }
+    }
+
     /// What a key's value says.
     #[tactic(auto, using(crate::proofs::KeyLaws::key_laws))]
     pub fn new(value: &[u8]) -> Key
         ensures { key_value result ≡ key_of value.now }
     {
-        let alters = alters_of(value);
         let standard = all_expected(value);
         let count = count_letters(value);
         if count == 0 {
-            return Key {
-                alters,
-                fifths: 0,
-                standard,
-            };
-        }
-        if is_pure(value, &Key::SHARPS, b'b') {
-            let fifths = count as i8;
-            return Key {
-                alters,
-                fifths,
-                standard,
-            };
-        }
-        if is_pure(value, &Key::FLATS, b'x') {
-            let fifths = -(count as i8);
-            return Key {
-                alters,
-                fifths,
-                standard,
-            };
-        }
-        Key {
-            alters,
-            fifths: 0,
-            standard: false,
+            Key::with(value, 0, standard)
+        } else if is_pure(value, &Key::SHARPS, b'b') {
+            Key::with(value, count as i8, standard)
+        } else if is_pure(value, &Key::FLATS, b'x') {
+            Key::with(value, -(count as i8), standard)
+        } else {
+            Key::with(value, 0, false)
         }
     }
 }

@@ -8,6 +8,7 @@ use scan::classes::{Class, starts_with};
 use scan::lines::{Offset, Part};
 
 /// A place in the data, from 1.
+// It says no bound: a tuple struct has no ghost field, and each maker would be asked for one.
 #[derive(Clone, Copy, Debug, PartialEq, Eq)]
 pub struct Place(pub u32);
 

@@ -52,7 +52,8 @@ pub enum Token<'d> {
     WholeBars(Option<u16>),
     Barline(Barline),
     Grace(Grace),
-    /// `qq` (true) or `r`.
+    /// Whether it begins, `qq`, or ends, `r`.
+    // A `bool`, as in the rules' token: what it is, not what is to be done.
     GraceGroup(bool),
     Figure(Figure),
     Marking(Marking),

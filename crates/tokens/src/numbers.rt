@@ -25,6 +25,7 @@ fn number_to(limit: u16, digits: &[u8]) -> Option<u16>
         return None;
     }
     let mut number = 0;
+    // Digit by digit: std's `parse` takes a `+` too, and has no limit but its type's.
     for digit in digits {
         if !digit.is_ascii_digit() {
             return None;

@@ -43,6 +43,8 @@ impl Step {
     }
 }
 
+// An impl for each type here and below: what a macro or a derive writes has no `from_gives`, and
+// callers would not learn the numbers.
 impl From<Step> for i32 {
     ghost use Rattle.tokens.specs.Words.{WritesBy};
     ghost use Rattle.tokens.specs.Steps.{step_number};
@@ -88,6 +90,9 @@ impl Octave {
 
     /// The highest octave.
     pub const MAX: usize = 9;
+
+    /// The octave at the start of a reading.
+    pub const START: Octave = Octave { number: 4 };
 
     /// A run of `'` sets octave 3 and its size.
     pub(crate) fn raised(size: usize) -> Option<Octave>
@@ -487,6 +492,7 @@ impl<'d> Rest<'d> {
 const KEPT: usize = 256;
 
 /// How many lengths are kept, and what stands behind them.
+// The lengths are lent beside it: a cycle that begins anew writes them where they stand.
 #[derive(Clone, Copy)]
 struct Kept<'d> {
     count: usize,
@@ -505,22 +511,22 @@ impl<'d> Kept<'d> {
     {
         lengths[0] = pattern.length();
         let mut rest = pattern.behind();
-        let mut count = 1;
-        // It ends with the pattern, or where no more are kept: no iterator ends by either.
-        while count < KEPT {
+        // By number: where the pattern ends, it is how many are kept.
+        for count in 1..KEPT {
             let Some(next) = rest.pattern() else {
-                break;
+                return Kept { count, rest };
             };
             lengths[count] = next.length();
             rest = next.behind();
-            count += 1;
         }
-        Kept { count, rest }
+        Kept { count: KEPT, rest }
     }
 }
 
-/// The lengths that notes take in turn: behind the last one a pattern begins anew. The next one is a
-/// kept one, else it stands in the text.
+/// The lengths that notes take in turn: behind the last one a pattern begins anew. The next one is
+/// a kept one, else it stands in the text.
+// An array and a count, no `ArrayVec` of the kit: that is not `Copy`, which this and the reading's
+// state are.
 #[derive(Clone, Copy)]
 pub struct Cycle<'d> {
     lengths: [Length; KEPT],

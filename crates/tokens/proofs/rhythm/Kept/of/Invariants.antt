@@ -1,14 +1,9 @@
-use Rattle.std.specs.Prelude.{◌-◌, ◌≡◌, ◌≤◌, length, take}
+use Rattle.std.specs.Prelude.{◌≡◌, length, take}
 use Rattle.tokens.specs.Rhythm.{lengths_of, lengths_with}
 use Rattle.tokens.proofs.rhythm.Kept.of.Given as goal
 
 abbrev pub invariant-loop-count : goal.invariant-loop-count
 invariant-loop-count l = record {
-  some : 1 ≤ l.count;
-  within : l.count ≤ 256;
   size : length l.lengths ≡ 256;
   lengths : lengths_with (take l.count l.lengths) l.rest ≡ lengths_of l.pattern;
 }
-
-abbrev pub decreases-loop-count : goal.decreases-loop-count
-decreases-loop-count l = 256 - l.count
