@@ -2,9 +2,9 @@
 use Prim.Native.Nat.{ℕ, zero, suc, ◌+◌, ◌-◌, ◌*◌, ◌≤◌}
 use native.Mathlib.Omega.{arith}
 use native.Mathlib.Nat.{suc-sub-suc, sub-zero, zero-sub, add_assoc}
-use mathlib.Core.Path.{◌≡◌, sym, ap, ◌∙◌}
-use mathlib.Core.List.{List, ◌++◌, append_assoc}
-use lib.IntN.{ℤ}
+use mathlib.Core.Path.{◌≡◌, refl, sym, ap, ◌∙◌}
+use mathlib.Core.List.{List, ◌∷◌, ◌++◌, append_assoc}
+use lib.IntN.{ℤ, pos}
 use lib.ListN.{length, take, drop, length-append, length-replicate, take-append-drop, length-drop}
 use lib.Seq.{drop-drop, drop-append-le, drop-append_seam, length-take-le}
 use borrow.Rule.Slice.PartMut.{put_mid}
@@ -31,6 +31,11 @@ pub drop-zeros : (k m : ℕ) → drop k (zeros m) ≡ zeros (m - k)
 drop-zeros zero m = rw sub-zero
 drop-zeros (suc k) zero = rw zero-sub
 drop-zeros (suc k) (suc m) = rw (suc-sub-suc m k) (drop-zeros k m)
+
+pub take-zeros : (k n : ℕ) → k ≤ n → take k (zeros n) ≡ zeros k
+take-zeros zero n h = refl
+take-zeros (suc k) zero h = absurd (omega arith)
+take-zeros (suc k) (suc n) h = ap (λ (l : List ℤ). pos 0 ∷ l) (take-zeros k n (omega arith))
 
 -- words z that stand behind w already need no writing
 written-front : (l : List ℤ) (at : ℕ) (w z rest : List ℤ) → drop (at + length w) l ≡ z ++ rest → written l at (w ++ z) ≡ written l at w
