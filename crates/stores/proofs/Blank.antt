@@ -1,21 +1,16 @@
 -- Cells that are 0 behind the records. Assumes nothing.
-use Prim.Native.Nat.{ℕ, zero, suc, ◌+◌, ◌-◌, ◌*◌, ◌≤◌}
+use Prim.Native.Nat.{ℕ, ◌+◌, ◌-◌, ◌*◌, ◌≤◌}
 use native.Mathlib.Omega.{arith}
 use native.Mathlib.Nat.{suc-mul}
 use native.Mathlib.Numerals.{add-one}
-use mathlib.Core.Path.{◌≡◌, refl, sym, ap, ◌∙◌}
-use mathlib.Core.List.{List, ◌∷◌, ◌++◌, append_assoc}
-use lib.IntN.{ℤ, pos}
+use mathlib.Core.Path.{◌≡◌, sym, ap, ◌∙◌}
+use mathlib.Core.List.{List, ◌++◌, append_assoc}
+use lib.IntN.{ℤ}
 use lib.ListN.{length, take, drop, length-append, length-drop, length-replicate}
 use lib.Seq.{drop_at, drop-drop, length-take-le}
 use Rattle.rules.specs.Words.{zeros}
 use Rattle.stores.specs.Cells.{written, record_at, BlankFrom}
-use Rattle.stores.proofs.Parts.{drop-zeros}
-
-take-zeros : (k n : ℕ) → k ≤ n → take k (zeros n) ≡ zeros k
-take-zeros zero n h = refl
-take-zeros (suc k) zero h = absurd (omega arith)
-take-zeros (suc k) (suc n) h = ap (λ (l : List ℤ). pos 0 ∷ l) (take-zeros k n (omega arith))
+use Rattle.stores.proofs.Parts.{drop-zeros, take-zeros}
 
 -- cleared cells
 pub blank-cleared : (n at : ℕ) → BlankFrom at (zeros n)

@@ -1,13 +1,14 @@
 -- Copies of records: one more is one store more. Assumes nothing.
-use Prim.Native.Nat.{ℕ, zero, suc, ◌+◌, ◌-◌, ◌*◌, ◌≤◌}
+use Prim.Native.Nat.{ℕ, zero, suc, ◌+◌, ◌-◌, ◌*◌, ◌/◌, ◌≤◌}
 use native.Mathlib.Omega.{arith}
 use native.Mathlib.Nat.{zero-add, add-zero, add_assoc, zero-mul, suc-mul}
 use native.Mathlib.Numerals.{add-one}
 use mathlib.Core.Path.{◌≡◌, refl, sym, ap, ◌∙◌}
-use mathlib.Core.List.{List, [], ◌++◌, append_assoc}
+use mathlib.Core.List.{List, [], ◌++◌, append_assoc, append-nil}
 use lib.IntN.{ℤ}
 use lib.ListN.{length, take, drop, length-append, length-drop, length-set, take-append-drop}
-use Rattle.std.proofs.lemmas.List.{take_all}
+use Rattle.std.proofs.lemmas.List.{take_all, drop_all}
+use borrow.Rule.Slice.PartMut.{put_mid}
 use lib.Seq.{take_at, drop_at, drop-drop, length-take-le, take-append-le, drop-append-le}
 use Rattle.rules.specs.Limits.{note_size}
 use Rattle.stores.specs.Cells.{written, record_at, with_record}
@@ -51,15 +52,29 @@ copies-front place bar xs ys (suc k) h =
 pub written_behind : (a : ℕ) (l w : List ℤ) → take a l ++ written (drop a l) 0 w ≡ written l a w
 written_behind a l w = rw (drop-drop, zero-add)
 
+-- and put back with these at its start
+pub put_behind : (a k : ℕ) (l r w : List ℤ) → k ≡ length l - a → r ≡ written (take k (drop a l)) 0 w → put_mid a k l r ≡ written l a w
+put_behind a k l r w e h =
+    let few : length (drop a l) ≤ k = rw length-drop (omega (arith, e)) in
+    rw (h, drop_all k (drop a l) few, take_all k (drop a l) few, append-nil (written (drop a l) 0 w)) (written_behind a l w)
+
+-- copies of a part that is cut off
+pub copies_part : (place bar : ℕ) (l : List ℤ) (n k : ℕ) → n ≡ k * note_size → n ≤ length l
+    → copies place bar (take n l) (length (take n l) / note_size) ≡ copies place bar l k
+copies_part place bar l n k e h =
+    let len : length (take n l) ≡ n = length-take-le n l h in
+    let count : length (take n l) / note_size ≡ k = omega (arith, len, e) in
+    rw count (sym (copies-front place bar (take n l) (drop n l) k (omega (arith, len, e))) ∙ ap (λ (s : List ℤ). copies place bar s k) (take-append-drop n l))
+
 -- copies of records before, written behind
-pub copied_behind : (place bar : ℕ) (l : List ℤ) (a b k : ℕ) → a + k * note_size ≤ b → b ≤ length l
-    → let front = take b l in
-    front ++ written (drop b l) 0 (copies place bar (take (length front - a) (drop a front)) k) ≡ written l b (copies place bar (drop a l) k)
-copied_behind place bar l a b k h g =
+pub copied_behind : (place bar : ℕ) (l : List ℤ) (a b n k : ℕ) → n ≡ k * note_size → a + n ≤ b → b ≤ length l
+    → let part = take n (drop a (take b l)) in
+    take b l ++ written (drop b l) 0 (copies place bar part (length part / note_size)) ≡ written l b (copies place bar (drop a l) k)
+copied_behind place bar l a b n k e h g =
     let front = take b l in
-    let n : length front ≡ b = length-take-le b l g in
-    let m : length (drop a front) ≡ b - a = rw (length-drop, n) in
-    let whole : take (length front - a) (drop a front) ≡ drop a front = take_all (length front - a) (drop a front) (omega (arith, m, n)) in
-    let e : drop a front ++ drop b l ≡ drop a l = sym (drop-append-le a front (drop b l) (omega (arith, n, h))) ∙ ap (drop a) (take-append-drop b l) in
-    let f = copies-front place bar (drop a front) (drop b l) k (omega (arith, m, h)) in
-    rw whole (written_behind b l (copies place bar (drop a front) k) ∙ ap (written l b) (sym f ∙ ap (λ (s : List ℤ). copies place bar s k) e))
+    let part = take n (drop a front) in
+    let m : length front ≡ b = length-take-le b l g in
+    let d : length (drop a front) ≡ b - a = rw (length-drop, m) in
+    let s : drop a front ++ drop b l ≡ drop a l = sym (drop-append-le a front (drop b l) (omega (arith, m, h))) ∙ ap (drop a) (take-append-drop b l) in
+    let f = sym (copies-front place bar (drop a front) (drop b l) k (omega (arith, d, e, h))) ∙ ap (λ (s : List ℤ). copies place bar s k) s in
+    written_behind b l (copies place bar part (length part / note_size)) ∙ ap (written l b) (copies_part place bar (drop a front) n k e (omega (arith, d, h)) ∙ f)

@@ -34,7 +34,7 @@ pub struct NoRoom;
 pub fn natural(word: i32) -> u32
     ensures { result ≡ natural word }
 {
-    if word < 0 { 0 } else { word as u32 }
+    u32::try_from(word).unwrap_or(0)
 }
 
 /// Records of `N` words in lent cells, the first ones stored.

@@ -1,5 +1,5 @@
 // Copies of note records: into the figure, from the figure, and of a bar.
-ghost use Rattle.std.specs.Prelude.{◌≡◌, ◌+◌, ◌*◌, ◌≤◌, ◌<◌, ◌↔◌, length, take, drop};
+ghost use Rattle.std.specs.Prelude.{◌≡◌, ◌+◌, ◌*◌, ◌/◌, ◌≤◌, ◌<◌, ◌↔◌, length, take, drop};
 ghost use Rattle.std.specs.Prelude.{OnOk, OnErr, IsErr};
 ghost use Rattle.stores.specs.Cells.{written, word_limit};
 ghost use Rattle.stores.specs.Copies.{copy_of, copies};
@@ -9,6 +9,8 @@ use super::note::{BAR_NUMBER, PLACE, TIES};
 use tokens::cut::Place;
 
 // A record's words copied into others, with another place and bar, and no ties.
+// That place and bar fit words is asked for: a tuple struct has no ghost field, nor has a number.
+// Slices, of `NOTE` words: `first_chunk_mut` gives an `Option`, whose `None` can't be.
 fn copy_record(target: &mut [i32], source: &[i32], place: Place, bar: u32)
     requires target { length target.old ≡ NOTE }
     requires source { length source.now ≡ NOTE }
@@ -22,16 +24,16 @@ fn copy_record(target: &mut [i32], source: &[i32], place: Place, bar: u32)
     target[BAR_NUMBER] = bar as i32;
 }
 
-// The first `count` records, copied into others.
-fn copy_records(target: &mut [i32], source: &[i32], count: usize, place: Place, bar: u32)
-    requires target { count * NOTE ≤ length target.old }
-    requires source { count * NOTE ≤ length source.now }
+// Records, copied into the first of others.
+fn copy_records(target: &mut [i32], source: &[i32], place: Place, bar: u32)
+    requires room { length source.now ≤ length target.old }
     requires place { place.0 < word_limit }
     requires bar { bar < word_limit }
-    ensures { target.new ≡ written target.old 0 (copies place.0 bar source.now count) }
+    ensures { target.new ≡ written target.old 0
+        (copies place.0 bar source.now (length source.now / NOTE)) }
 {
     // By number: std doesn't say what is in the cells after `chunks_exact_mut`.
-    for k in 0..count {
+    for k in 0..source.len() / NOTE {
         let at = k * NOTE;
         copy_record(
             &mut target[at..at + NOTE],
@@ -42,7 +44,8 @@ fn copy_records(target: &mut [i32], source: &[i32], count: usize, place: Place, 
     }
 }
 
-// The `count` records from record `from` on, copied to record `to` on.
+// The `count` records from record `from` on, copied to record `to` on. Numbers, and no slices: both
+// are in the same cells.
 fn copy_behind(cells: &mut [i32], from: usize, to: usize, count: usize, place: Place, bar: u32)
     requires later { from + count ≤ to }
     requires room { to * NOTE + count * NOTE ≤ length cells.old }
@@ -52,7 +55,7 @@ fn copy_behind(cells: &mut [i32], from: usize, to: usize, count: usize, place: P
         written cells.old (to * NOTE) (copies place.0 bar (drop (from * NOTE) cells.old) count) }
 {
     let (front, back) = cells.split_at_mut(to * NOTE);
-    copy_records(back, &front[from * NOTE..], count, place, bar);
+    copy_records(back, &front[from * NOTE..(from + count) * NOTE], place, bar);
 }
 
 impl<'a> Records<'a, NOTE> {
@@ -93,11 +96,12 @@ impl<'a> Records<'a, NOTE> {
             return Err(NoRoom);
         }
         let at = self.count * NOTE;
-        copy_records(&mut self.cells[at..], figure, count, place, bar);
+        copy_records(&mut self.cells[at..], &figure[..count * NOTE], place, bar);
         self.count += count;
         Ok(())
     }
 
+    // Not by `repeat_figure`: the records stand in the cells themselves, lent for writing.
     /// `count` records from one on, appended as copies.
     pub fn repeat(
         &mut self,

@@ -78,6 +78,7 @@ pub struct Diagnostic {
     pub end: i32,
 }
 
+// `AtFits` and `ValueFits` are asked for, and are no invariant: Rattle has no model of an enum.
 impl At {
     // Its kind and its number.
     fn words(self) -> [i32; 2]
@@ -158,6 +159,7 @@ impl<'a> Diagnostics<'a> {
         self.list.fill(Diagnostic::default());
     }
 
+    // Three parameters, here and below: they are made where they are pushed, each by itself.
     /// Stores one more at the count, where the list has a cell; those beyond the first 1,024 are
     /// dropped.
     pub fn push(&mut self, remark: Remark, at: At, value: Value)

@@ -14,7 +14,8 @@ ghost use Rattle.stores.specs.Groups.{tupled, fermata_in, closing_of, ThreeAtLea
 use super::cells::{MAX_MARKS, NOTE, NoRoom, Records, natural};
 use super::note::{ACTUAL, BEAM, KIND, MARK_COUNT, MARKS, NORMAL, NoteKind, add_mark};
 
-/// The non-grace records of a part: how many, and the number of the last.
+// No `Option` of the last: who asks for it has a record, and would have to unwrap it.
+/// The non-grace records of a part: how many, and the number of the last, 0 where there is none.
 #[derive(Clone, Copy, Debug, PartialEq, Eq)]
 pub struct Timed {
     pub count: usize,
@@ -31,7 +32,8 @@ pub enum Closing {
     TooFew(u8),
 }
 
-// Whether a record is non-grace.
+// Whether a record is non-grace. By the word: `matches!` of `NoteKind::try_from` was tried, and the
+// proof didn't close.
 fn is_timed(words: &[i32]) -> bool
     requires { length words.now ≡ NOTE }
     ensures { result ≡ timed_at words.now 0 }
@@ -40,7 +42,8 @@ fn is_timed(words: &[i32]) -> bool
     kind != NoteKind::Grace as u32 && kind != NoteKind::SlashedGrace as u32
 }
 
-// The non-grace records of the part's first `count`.
+// The non-grace records of the part's first `count`. A `count`, here and below: the part goes on to
+// the end of the cells, as the methods promise it; cut off, it would have to be divided by `NOTE`.
 fn timed_in(part: &[i32], count: usize) -> Timed
     requires { count * NOTE ≤ length part.now }
     ensures count { result.count ≡ timed_count part.now count }
@@ -60,6 +63,7 @@ fn timed_in(part: &[i32], count: usize) -> Timed
     timed
 }
 
+// The word of a beam: a number, since a record has words, and nothing here looks at it again.
 fn beam_number(earlier: usize, total: usize) -> i32
     requires { earlier < word_limit }
     ensures { result ≡ pos (beam_number earlier total) }
@@ -121,6 +125,7 @@ fn beam(part: &mut [i32], count: usize)
 }
 
 // The non-grace ones of the part's first `count` records, in a tuplet.
+// `normal` beside `actual`: by `normal_of` this would ask that `actual` is 3 or more.
 fn tuplet(part: &mut [i32], count: usize, actual: u8, normal: u8)
     requires room { count * NOTE ≤ length part.old }
     ensures { part.new ≡ tupled actual normal part.old count }

@@ -163,29 +163,16 @@ impl Heading {
         ensures { result ≡ take (first_pitch + pitch_size)
             (note_words (opened bar (heading_of self) ends (pitch_of pitch ∷ []))) }
     {
-        let [duration, dots] = self.length_words();
-        [
-            self.place.0 as i32,
-            self.kind.into(),
-            duration,
-            dots,
-            if ends { 2 } else { 0 },
-            0,
-            0,
-            0,
-            0,
-            0,
-            1,
-            bar as i32,
-            pitch.place.0 as i32,
-            pitch.step.into(),
-            pitch.octave.into(),
-            i32::from(pitch.alter),
-        ]
+        let mut words = [0; FIRST_PITCH + PITCH];
+        words[..FIRST_PITCH].copy_from_slice(&self.words(ends, bar));
+        words[PITCH_COUNT] = 1;
+        words[FIRST_PITCH..].copy_from_slice(&pitch.words());
+        words
     }
 }
 
-// ---- the words of one record, lent
+// ---- the words of one record, lent: a slice, since `first_chunk_mut` gives an `Option`, whose
+// `None` can't be
 
 // One more pitch.
 fn add_pitch(words: &mut [i32], pitch: Pitch)
@@ -217,7 +204,7 @@ fn mark_bit(trill: bool, count: u32) -> u32
     if trill { 1 << count } else { 0 }
 }
 
-// One more mark.
+// One more mark. A flag, as the rules have it and as its bit in the word of marks.
 pub(crate) fn add_mark(words: &mut [i32], trill: bool)
     requires whole { length words.old ≡ NOTE }
     requires room { number_at MARK_COUNT words.old < mark_capacity }
@@ -233,6 +220,7 @@ pub(crate) fn add_mark(words: &mut [i32], trill: bool)
 // ---- records in the cells
 
 impl<'a> Records<'a, NOTE> {
+    // Parameters, here and below: the reader has each of them apart.
     /// Opens a record with one pitch; a tie may end at it. Only 16 words are written.
     pub fn open_note(
         &mut self,
@@ -278,6 +266,7 @@ impl<'a> Records<'a, NOTE> {
         Ok(())
     }
 
+    // That there is a last record is asked, here and below: who calls knows of the open bar's note.
     /// One more pitch in the last record.
     pub fn add_pitch(&mut self, pitch: Pitch) -> Result<(), NoRoom>
         requires some { 0 < self.old.count }

@@ -1,26 +1,17 @@
 -- The cells of records of any kind: one record added, read, changed, and a part of them. The latest record stands first in a list; `q` stands before x in the cells, and `p` after it. Assumes nothing.
-use Prim.Native.Nat.{ℕ, zero, suc, ◌+◌, ◌-◌, ◌*◌, ◌<◌, ◌≤◌}
+use Prim.Native.Nat.{ℕ, ◌+◌, ◌-◌, ◌*◌, ◌<◌, ◌≤◌}
 use native.Mathlib.Omega.{arith}
-use native.Mathlib.Nat.{suc-sub-suc, sub-zero, zero-sub, zero-mul, suc-mul}
-use mathlib.Core.Path.{◌≡◌, refl, ap, ◌∙◌}
+use native.Mathlib.Nat.{sub-zero, zero-mul, suc-mul}
+use mathlib.Core.Path.{◌≡◌, ◌∙◌}
 use mathlib.Core.List.{List, [], ◌∷◌, ◌++◌, append_assoc, append-nil}
 use lib.IntN.{ℤ, pos}
 use lib.ListN.{length, get_or, take, drop, length-append, get_or-append}
 use lib.Seq.{take_at, drop_at, drop-drop, get_or-drop, get_or-take}
 use Rattle.rules.specs.Words.{cells, zeros, padded}
 use Rattle.stores.specs.Cells.{written, record_at, with_record, changed}
+use Rattle.stores.proofs.Parts.{drop-zeros}
 
 -- ---- words
-
-pub drop-zeros : (k m : ℕ) → drop k (zeros m) ≡ zeros (m - k)
-drop-zeros zero m = rw sub-zero
-drop-zeros (suc k) zero = rw zero-sub
-drop-zeros (suc k) (suc m) = rw (suc-sub-suc m k) (drop-zeros k m)
-
-pub take-zeros : (k n : ℕ) → k ≤ n → take k (zeros n) ≡ zeros k
-take-zeros zero n h = refl
-take-zeros (suc k) zero h = absurd (omega arith)
-take-zeros (suc k) (suc n) h = ap (λ (l : List ℤ). pos 0 ∷ l) (take-zeros k n (omega arith))
 
 -- cleared cells hold no record
 pub padded-none : (n : ℕ) → zeros n ≡ padded n []

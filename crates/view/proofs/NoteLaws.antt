@@ -17,7 +17,8 @@ use Rattle.rules.specs.Words.{cells, zeros, padded, pitch_words, pitch_cells, po
 use Rattle.stores.specs.Cells.{written}
 use Rattle.stores.specs.declared.note.TheConstants.{TIES}
 use Rattle.stores.specs.Notes.{pitched, tie_started, marked}
-use Rattle.view.proofs.CellLaws.{take-zeros, length-cells, padded-added}
+use Rattle.stores.proofs.Parts.{take-zeros}
+use Rattle.view.proofs.CellLaws.{length-cells, padded-added}
 
 -- ---- lengths
 

@@ -21,7 +21,7 @@ loop-k-preserved c =
       | then-is_timed w ↦ record {
         within = omega (arith, w.earlier-is, h.within);
         size = c.if-is_timed.auto.part ∙ h.size;
-        part = w.part-is ∙ put_record 44 k n (f c.loop-k.earlier) p w.set_beam.new.words (omega arith) (omega arith) w.set_beam.ensures w.set_beam.auto.words ∙ walked-part f l k p c.loop-k.earlier true h.part h.earlier (t ∙ w.if-is_timed.true);
+        part = w.part-is ∙ put_record k (f c.loop-k.earlier) p w.set_beam.new.words (omega arith) w.set_beam.ensures w.set_beam.auto.words ∙ walked-part f l k p c.loop-k.earlier true h.part h.earlier (t ∙ w.if-is_timed.true);
         earlier = w.earlier-is ∙ walked-count f l k p c.loop-k.earlier true h.part h.earlier (t ∙ w.if-is_timed.true);
       }
       | else-is_timed w ↦ record {

@@ -21,7 +21,7 @@ loop-k-preserved c =
     record {
       size = c.if-is_timed.auto.part ∙ h.size;
       walked = elim c.if-is_timed.branch [
-        | then-is_timed w ↦ w.part-is ∙ put_record 44 k n (f e) p w.set_tuplet.new.words (omega arith) (omega arith) w.set_tuplet.ensures w.set_tuplet.auto.words ∙ walked-part f l k p e true h.walked refl (t ∙ w.if-is_timed.true)
+        | then-is_timed w ↦ w.part-is ∙ put_record k (f e) p w.set_tuplet.new.words (omega arith) w.set_tuplet.ensures w.set_tuplet.auto.words ∙ walked-part f l k p e true h.walked refl (t ∙ w.if-is_timed.true)
         | else-is_timed w ↦ w.part-is ∙ walked-part f l k p e false h.walked refl (t ∙ w.if-is_timed.false)
       ];
     }
