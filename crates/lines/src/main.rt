@@ -67,8 +67,8 @@ fn print_reading<W: Write>(
     let counts = match reading {
         Ok(counts) => counts,
         Err(stop) => {
-            let number = stop.refusal.number();
-            let place = stop.place.0;
+            let number = u32::from(stop.refusal);
+            let place = stop.place.map_or(0, |place| place.0);
             return writeln!(out, "refused {number} at {place}");
         }
     };

@@ -32,8 +32,8 @@ impl From<Result<Counts, Stop>> for Reading {
                 diagnostics: counts.diagnostics,
             },
             Err(stop) => Reading {
-                number: stop.refusal.number(),
-                place: stop.place.0,
+                number: stop.refusal.into(),
+                place: stop.place.map_or(0, |place| place.0),
                 notes: 0,
                 bars: 0,
                 diagnostics: 0,

@@ -280,7 +280,7 @@ module _ {text : List ℕ} {lent : Lent} {p : Part} {cells : LentRecords} {k : A
 pub reads_early : (text : List ℕ) (lent : Lent) (e : view.Refusal) → refusal_of text (lent_records lent) ≡ some (refusal (refusal_number e) 0) → (r : Result Counts Stop) → IsErr r → IsErrAnd r (HasNoPlace e)
     → (notes bars : List ℤ) (diagnostics : List stores.Diagnostic) → Reads text lent r notes bars diagnostics
 reads_early text lent e h (Ok counts) i p notes bars diagnostics = absurd p
-reads_early text lent e h (Err stop) i p notes bars diagnostics = h ∙ ap some (sym p)
+reads_early text lent e h (Err stop) i p notes bars diagnostics = h ∙ ap (λ s. some (stop_in s)) (sym p)
 
 pub no_data_in : (o : std.Option scan.Part) → ((x : scan.Part) → o ≡ std.Some x → ⊥) → data_in o ≡ none
 no_data_in std.None h = refl
@@ -300,7 +300,7 @@ module _ (text : List ℕ) (lent : Lent) where
       let ws : words (blanks k) ≡ zeros (diagnostic_size * lent.diagnostics) = words-blanks k ∙ ap (λ j. zeros (diagnostic_size * j)) ek in
       let same : answer (Err stop) (zeros n) (zeros m) (zeros f) (blanks k) ≡ refused lent (stop_in stop) = (λ i. record {
         number = (stop_in stop).number;
-        place = stop.place.0;
+        place = (stop_in stop).place;
         notes = 0;
         bars = 0;
         diagnostics = 0;

@@ -14,7 +14,7 @@ use Rattle.rules.specs.Reading.{Lent, lent_records, Reading, accepted}
 use Rattle.stores.specs.declared.diagnostic.Diagnostic.{Diagnostic}
 use Rattle.stores.specs.Diagnostics.{six_words, blanks, list_after_all, count_after_all}
 use Rattle.view.specs.declared.refusal.Stop.{Stop}
-use Rattle.view.specs.Refusals.{refusal_number, stop_in}
+use Rattle.view.specs.Refusals.{refusal_number, place_number, stop_in}
 use Rattle.view.specs.View.{View}
 use Rattle.reader.specs.declared.read.Counts.{Counts}
 
@@ -42,7 +42,7 @@ answer (Ok counts) notes bars figure diagnostics = record {
 }
 answer (Err stop) notes bars figure diagnostics = record {
   number = refusal_number stop.refusal;
-  place = stop.place.0;
+  place = place_number stop.place;
   notes = 0;
   bars = 0;
   diagnostics = 0;

@@ -9,7 +9,7 @@ ghost use Rattle.view.specs.Accidentals.{no_entries, entry, entered};
 use tokens::rhythm::{Accidental, Octave, Step};
 
 /// An alteration for each of 7 steps in each of 10 octaves, an extra value meaning none.
-// The form that D-93 decides on; entries that are an `Option` made short bars a third slower (tried).
+// Not `Option`s: they made short bars, each of which clears the table, a third slower (tried).
 #[derive(Clone, Copy)]
 pub struct Accidentals {
     pub table: [[i8; 10]; 7],

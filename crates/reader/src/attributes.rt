@@ -18,12 +18,10 @@ impl<'s, 't, 'n, 'b, 'l, 'd> Reader<'s, 't, 'n, 'b, 'l, 'd> {
         ensures clef { (figure : List ℤ) → view_of self.new figure ≡
             after_clef (item_of span.entry) (clef_value value) (view_of self.old figure) }
     {
-        let at = At::Data(span.place);
         if self.has_note() {
-            self.diagnostics
-                .push(Remark::AfterNotes, at, after_first(span));
-            return;
+            return self.remark_alone(Remark::AfterNotes, span, after_first(span));
         }
+        let at = At::Data(span.place);
         self.diagnostics.push_clef(at, after_first(span), value);
         if value.clef.is_some() {
             self.state.attributes.clef = value.clef;
@@ -36,15 +34,14 @@ impl<'s, 't, 'n, 'b, 'l, 'd> Reader<'s, 't, 'n, 'b, 'l, 'd> {
         ensures key { (figure : List ℤ) → view_of self.new figure ≡
             after_key (item_of span.entry) (key_value key) (view_of self.old figure) }
     {
-        let at = At::Data(span.place);
         if self.has_note() {
-            self.diagnostics
-                .push(Remark::AfterNotes, at, after_first(span));
-            return;
+            return self.remark_alone(Remark::AfterNotes, span, after_first(span));
         }
+        let at = At::Data(span.place);
         self.diagnostics
             .push_unless(key.standard, Remark::UnusualKey, at, after_first(span));
         self.state.attributes.fifths = Some(key.fifths);
+        // In two steps: an array of another struct's is covered only as a variable (tried).
         let alters = key.alters;
         self.state.attributes.alters = alters;
     }
@@ -55,12 +52,10 @@ impl<'s, 't, 'n, 'b, 'l, 'd> Reader<'s, 't, 'n, 'b, 'l, 'd> {
         ensures meter { (figure : List ℤ) → view_of self.new figure ≡
             after_meter (item_of span.entry) (meter_in meter) (view_of self.old figure) }
     {
-        let at = At::Data(span.place);
         if self.has_note() {
-            self.diagnostics
-                .push(Remark::AfterNotes, at, after_first(span));
-            return;
+            return self.remark_alone(Remark::AfterNotes, span, after_first(span));
         }
+        let at = At::Data(span.place);
         match meter {
             Some(_) => self.state.attributes.meter = meter,
             None => self

@@ -53,11 +53,11 @@ impl<'s, 't, 'n, 'b, 'l, 'd> Reader<'s, 't, 'n, 'b, 'l, 'd> {
             return Ok(());
         }
         let bar = self.finished(right);
-        self.bars.store(bar).map_err(|_: NoRoom| Refusal::NoBar)?;
-        Ok(())
+        self.bars.store(bar).map_err(|_: NoRoom| Refusal::NoBar)
     }
 
-    /// A barline: the open bar is stored, and another begins; an empty one goes on, noting a repeat's start.
+    /// A barline: the open bar is stored, and another begins; an empty one goes on, noting a
+    /// repeat's start.
     pub fn barline(&mut self, barline: Barline) -> Result<(), Refusal>
         requires { Sound (view_of self.old []) }
         ensures same { SameBuffers self.old self.new }

@@ -15,7 +15,8 @@ use stores::diagnostic::{At, Diagnostics, Remark, Value};
 use tokens::attributes::{ClefValue, Key, Meter};
 use tokens::rhythm::Edge;
 
-/// What the fields of a text set: the attributes that the data starts with, and the data, if there is one.
+/// What the fields of a text set: the attributes that the data starts with, and the data, if there
+/// is one.
 #[derive(Clone, Copy)]
 pub struct Fields<'t> {
     pub attributes: Attributes,
@@ -73,6 +74,7 @@ impl<'t> Fields<'t> {
                 let key = Key::new(value.bytes);
                 diagnostics.push_unless(key.standard, Remark::UnusualKey, at, part);
                 self.attributes.fifths = Some(key.fifths);
+                // In two steps: an array of another struct's is covered only as a variable (tried).
                 let alters = key.alters;
                 self.attributes.alters = alters;
             }
@@ -121,6 +123,7 @@ fn in_field_form(text: &[u8]) -> bool
     requires { length text.now ≤ text_limit }
     ensures { result ≡ in_field_form text.now }
 {
+    // No `any`: it speaks of the lines from the first on, the definitions from the latest back.
     for line in Lines::new(text) {
         if line.field().is_some() {
             return true;

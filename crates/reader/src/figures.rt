@@ -8,7 +8,7 @@ ghost use Rattle.std.proofs.Math.Option.{some};
 ghost use Rattle.view.specs.Steps.{after_second_mark, after_mark, after_repeat, after_bar};
 
 use super::remark::all_of_it;
-use super::state::{Start, State};
+use super::state::Start;
 use super::walk::Reader;
 use stores::cells::{NOTE, NoRoom};
 use stores::diagnostic::{At, Remark};
@@ -79,10 +79,8 @@ impl<'s, 't, 'n, 'b, 'l, 'd> Reader<'s, 't, 'n, 'b, 'l, 'd> {
             (λ e. after_repeat (item_of span.entry) (view_of self.old figure.now) ≡ Err e) }
     {
         let count = self.state.figure;
-        if State::MAX_NOTES < self.notes.count + count {
-            return Err(Refusal::TooManyNotes);
-        }
-        let bar = self.bars.count as u32 + 1;
+        self.room_for(count)?;
+        let bar = self.open_bar();
         self.notes
             .repeat_figure(figure, count, span.place, bar)
             .map_err(|_: NoRoom| Refusal::NoNote)?;
@@ -110,10 +108,8 @@ impl<'s, 't, 'n, 'b, 'l, 'd> Reader<'s, 't, 'n, 'b, 'l, 'd> {
         } else {
             0
         };
-        if State::MAX_NOTES < self.notes.count + count {
-            return Err(Refusal::TooManyNotes);
-        }
-        let bar = self.bars.count as u32 + 1;
+        self.room_for(count)?;
+        let bar = self.open_bar();
         self.notes
             .repeat(self.state.last, count, span.place, bar)
             .map_err(|_: NoRoom| Refusal::NoNote)?;

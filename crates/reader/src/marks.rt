@@ -43,6 +43,7 @@ impl<'s, 't, 'n, 'b, 'l, 'd> Reader<'s, 't, 'n, 'b, 'l, 'd> {
                 .push(Remark::TrillAlone, At::Data(span.place), all_of_it(span));
             return Ok(());
         }
+        // `?` and `Ok`: the proof of `map_err`'s value itself didn't close (tried).
         self.notes
             .add_mark(true)
             .map_err(|_: NoRoom| Refusal::NoMark)?;

@@ -15,7 +15,7 @@ ghost use Rattle.view.specs.Steps as steps;
 ghost use Rattle.view.specs.Steps.{after_letter, after_rest, after_whole_bar, after_count};
 
 use super::remark::after_first;
-use super::state::{State, Voice};
+use super::state::Voice;
 use super::walk::Reader;
 use stores::cells::NoRoom;
 use stores::diagnostic::{At, Remark};
@@ -106,17 +106,15 @@ impl<'s, 't, 'n, 'b, 'l, 'd> Reader<'s, 't, 'n, 'b, 'l, 'd> {
         self.state.voice.accidental = None;
         self.state.voice.chord = false;
         if joins {
-            self.notes
+            return self
+                .notes
                 .add_pitch(pitch)
-                .map_err(|_: NoRoom| Refusal::NoPitch)?;
-            return Ok(());
+                .map_err(|_: NoRoom| Refusal::NoPitch);
         }
-        if self.notes.count == State::MAX_NOTES {
-            return Err(Refusal::TooManyNotes);
-        }
+        self.room_for(1)?;
         let length = take_length(&mut self.state.lengths, voice.is_grace());
         let heading = voice.heading(span.place, length);
-        let bar = self.bars.count as u32 + 1;
+        let bar = self.open_bar();
         self.notes
             .open_note(heading, voice.tie, bar, pitch)
             .map_err(|_: NoRoom| Refusal::NoNote)?;
@@ -134,15 +132,13 @@ impl<'s, 't, 'n, 'b, 'l, 'd> Reader<'s, 't, 'n, 'b, 'l, 'd> {
             ≡ Ok (view_of self.new figure))
             (λ e. after_rest span.entry.place.0 (view_of self.old figure) ≡ Err e) }
     {
-        if self.notes.count == State::MAX_NOTES {
-            return Err(Refusal::TooManyNotes);
-        }
+        self.room_for(1)?;
         let heading = Heading {
             place: span.place,
             kind: NoteKind::Rest,
             length: Some(self.state.lengths.take()),
         };
-        let bar = self.bars.count as u32 + 1;
+        let bar = self.open_bar();
         self.notes
             .open_rest(heading, bar)
             .map_err(|_: NoRoom| Refusal::NoNote)?;
@@ -160,15 +156,14 @@ impl<'s, 't, 'n, 'b, 'l, 'd> Reader<'s, 't, 'n, 'b, 'l, 'd> {
             (λ _. after_whole_bar place.0 (view_of self.old figure) ≡ Ok (view_of self.new figure))
             (λ e. after_whole_bar place.0 (view_of self.old figure) ≡ Err e) }
     {
-        if self.notes.count == State::MAX_NOTES {
-            return Err(Refusal::TooManyNotes);
-        }
+        self.room_for(1)?;
         let heading = Heading {
             place,
             kind: NoteKind::WholeBarRest,
             length: None,
         };
-        let bar = self.bars.count as u32 + 1;
+        let bar = self.open_bar();
+        // `?` and `Ok`: the proof of `map_err`'s value itself didn't close (tried).
         self.notes
             .open_rest(heading, bar)
             .map_err(|_: NoRoom| Refusal::NoNote)?;

@@ -75,7 +75,7 @@ impl<'s, 't, 'n, 'b, 'l, 'd> Reader<'s, 't, 'n, 'b, 'l, 'd> {
         self.store_bar(Edge::Plain)
             .map_err(|refusal: Refusal| Stop {
                 refusal,
-                place: behind,
+                place: Some(behind),
             })?;
         if self.notes.count == 0 {
             return Err(Refusal::NoRecord.into());

@@ -1,8 +1,8 @@
-// What is remarked of a token, all of it or what stands behind its first byte; tokens that are remarked alone.
+// What is remarked of a token: all of it, or what stands behind its first byte.
 ghost use Rattle.std.specs.Prelude.{◌≡◌, ◌∷◌, [], List, ℤ};
 ghost use Rattle.tokens.specs.Spans.{item_of};
 ghost use Rattle.rules.specs.Diagnostics.{diagnostic, here, after_first, all_of_it};
-ghost use Rattle.stores.specs.Diagnostics.{value_in, ValueFits};
+ghost use Rattle.stores.specs.Diagnostics.{remark_number, value_in, ValueFits};
 ghost use Rattle.reader.specs.Reader.{view_of, SameBuffers};
 ghost use Rattle.view.specs.Steps.{diagnosed};
 
@@ -30,25 +30,14 @@ pub fn after_first(span: Span) -> Value
 }
 
 impl<'s, 't, 'n, 'b, 'l, 'd> Reader<'s, 't, 'n, 'b, 'l, 'd> {
-    /// A lone `:`.
-    pub fn colon(&mut self, span: Span<'d>)
+    /// A token that is remarked, and else does nothing.
+    pub fn remark_alone(&mut self, remark: Remark, span: Span<'d>, value: Value)
+        requires { ValueFits value }
         ensures same { SameBuffers self.old self.new }
         ensures remarked { (figure : List ℤ) → view_of self.new figure ≡ diagnosed
-            (diagnostic 9 (here (item_of span.entry)) (all_of_it (item_of span.entry)) ∷ [])
+            (diagnostic (remark_number remark) (here (item_of span.entry)) (value_in value) ∷ [])
             (view_of self.old figure) }
     {
-        self.diagnostics
-            .push(Remark::LoneColon, At::Data(span.place), all_of_it(span));
-    }
-
-    /// A token that no rule speaks of.
-    pub fn unknown(&mut self, span: Span<'d>)
-        ensures same { SameBuffers self.old self.new }
-        ensures remarked { (figure : List ℤ) → view_of self.new figure ≡ diagnosed
-            (diagnostic 15 (here (item_of span.entry)) (all_of_it (item_of span.entry)) ∷ [])
-            (view_of self.old figure) }
-    {
-        self.diagnostics
-            .push(Remark::NoRule, At::Data(span.place), all_of_it(span));
+        self.diagnostics.push(remark, At::Data(span.place), value);
     }
 }

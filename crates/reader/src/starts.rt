@@ -1,13 +1,16 @@
-// The open bar: its notes, and where a group, beam or figure starts.
-ghost use Rattle.std.specs.Prelude.{◌≡◌, []};
+// The open bar: its number and notes, room for more, and where a group, beam or figure starts.
+ghost use Rattle.std.specs.Prelude.{◌≡◌, ◌+◌, ◌≤◌, ◌<◌, [], MatchResult};
+ghost use Rattle.rules.specs.Limits.{note_limit};
 ghost use Rattle.reader.specs.Parts.{start_of};
 ghost use Rattle.reader.specs.Reader.{view_of};
 ghost use Rattle.view.specs.Ready.{Sound};
+ghost use Rattle.view.specs.declared.refusal.Refusal.TheVariants.{TooManyNotes};
 ghost use Rattle.view.specs.View.{has_note, ends_in_note, open_length, start_here, in_its_bar};
 
-use super::state::Start;
+use super::state::{Start, State};
 use super::walk::Reader;
 use stores::note::{KIND, NoteKind};
+use view::refusal::Refusal;
 
 impl<'s, 't, 'n, 'b, 'l, 'd> Reader<'s, 't, 'n, 'b, 'l, 'd> {
     /// Whether the open bar has a note.
@@ -34,6 +37,27 @@ impl<'s, 't, 'n, 'b, 'l, 'd> Reader<'s, 't, 'n, 'b, 'l, 'd> {
         ensures { result ≡ open_length (view_of self.now []) }
     {
         self.notes.count - self.state.first
+    }
+
+    /// The number of the open bar, from 1.
+    pub fn open_bar(&self) -> u32
+        requires { Sound (view_of self.now []) }
+        ensures { result ≡ self.now.bars.now.count + 1 }
+    {
+        self.bars.count as u32 + 1
+    }
+
+    /// So many notes more are refused where a reading would have too many.
+    pub fn room_for(&self, count: usize) -> Result<(), Refusal>
+        requires { Sound (view_of self.now []) }
+        ensures { MatchResult result
+            (λ _. self.now.notes.now.count + count ≤ note_limit)
+            (λ e. (note_limit < self.now.notes.now.count + count) × (e ≡ TooManyNotes)) }
+    {
+        if State::MAX_NOTES - self.notes.count < count {
+            return Err(Refusal::TooManyNotes);
+        }
+        Ok(())
     }
 
     /// A start here.

@@ -11,17 +11,19 @@ ghost use Rattle.view.specs.Run.{IsFresh, run};
 ghost use Rattle.view.specs.Steps.{after_token};
 
 use super::accidentals::Accidentals;
+use super::remark::all_of_it;
 use super::state::State;
 use scan::lines::Part;
 use stores::cells::{Bars, Notes};
-use stores::diagnostic::Diagnostics;
+use stores::diagnostic::{Diagnostics, Remark};
 use tokens::cut::{Span, Tokens};
 use tokens::kinds::{Figure, Marking, Token};
 use view::refusal::{Refusal, Stop};
 
 /// A reading in lent cells: the state, the open bar's accidentals, the records stored so far.
-// It lends its stores, for two lifetimes: of stores that it owns, or of three lent for one, its maker
-// learns nothing at the end (both tried).
+// It lends its stores, for two lifetimes: of stores that it owns, or of three lent for one, its
+// maker learns nothing at the end (both tried). No ghost field says `Sound`, `IsSteady` or
+// `IsReady`: `store_bar` stores a bar before the next one begins, and the figure lies beside.
 #[derive(Drop)]
 pub struct Reader<'s, 't, 'n, 'b, 'l, 'd> {
     pub state: State<'d>,
@@ -69,8 +71,8 @@ impl<'s, 't, 'n, 'b, 'l, 'd> Reader<'s, 't, 'n, 'b, 'l, 'd> {
             Token::Marking(Marking::Tie) => self.tie(span),
             Token::Marking(Marking::Trill) => self.trill(span)?,
             Token::Blank => (),
-            Token::Colon => self.colon(span),
-            Token::Unknown => self.unknown(span),
+            Token::Colon => self.remark_alone(Remark::LoneColon, span, all_of_it(span)),
+            Token::Unknown => self.remark_alone(Remark::NoRule, span, all_of_it(span)),
         }
         Ok(())
     }
@@ -90,7 +92,7 @@ impl<'s, 't, 'n, 'b, 'l, 'd> Reader<'s, 't, 'n, 'b, 'l, 'd> {
             if let Err(refusal) = self.step(span, span.decode(), figure) {
                 return Err(Stop {
                     refusal,
-                    place: span.place,
+                    place: Some(span.place),
                 });
             }
         }

@@ -1,6 +1,7 @@
 -- The numbers of refusals. Assumes nothing.
-use Rattle.std.specs.Prelude.{ℕ, ◌≡◌}
+use Rattle.std.specs.Prelude.{ℕ, ◌≡◌, Option, Some, None}
 use Rattle.rules.specs.Refusals as rules
+use Rattle.tokens.specs.declared.cut.Place.{Place}
 use Rattle.view.specs.declared.refusal.Refusal.{Refusal}
 use Rattle.view.specs.declared.refusal.Refusal.TheVariants as r
 use Rattle.view.specs.declared.refusal.Stop.{Stop}
@@ -19,10 +20,15 @@ refusal_number r.NoFigure = 11
 refusal_number r.NoBar = 12
 refusal_number r.NoRecord = 13
 
+-- the number of a place, 0 for none
+abbrev pub place_number : Option Place → ℕ
+place_number (Some place) = place.0
+place_number None = 0
+
 -- the refusal of the rules that it is
 abbrev pub stop_in : Stop → rules.Refusal
-stop_in s = rules.refusal (refusal_number s.refusal) s.place.0
+stop_in s = rules.refusal (refusal_number s.refusal) (place_number s.place)
 
 -- a refusal of the whole text has no place
 abbrev pub HasNoPlace : Refusal → Stop → Type 0
-HasNoPlace e s = stop_in s ≡ rules.refusal (refusal_number e) 0
+HasNoPlace e s = s ≡ record { refusal = e; place = None }

@@ -4,8 +4,8 @@ ghost use Rattle.view.specs.Refusals.{refusal_number, HasNoPlace};
 
 use tokens::cut::Place;
 
-/// Why a text is refused; its number is the variant's.
-#[derive(Clone, Copy, Debug, PartialEq, Eq)]
+/// Why a text is refused, in the order of the numbers 1 to 13; a number is the variant's.
+#[derive(Clone, Copy, Debug, PartialEq, Eq, PartialOrd)]
 pub enum Refusal {
     /// Over 65,535 bytes.
     TooLong = 1,
@@ -33,20 +33,19 @@ pub enum Refusal {
     NoRecord = 13,
 }
 
-impl Refusal {
-    /// Its number, 1 to 13.
-    pub fn number(self) -> u32
-        ensures { result ≡ refusal_number self }
-    {
-        self as u32
+impl From<Refusal> for u32 {
+    ghost from_gives = { λ refusal number. number ≡ refusal_number refusal };
+
+    fn from(refusal: Refusal) -> u32 {
+        refusal as u32
     }
 }
 
-/// Why a text is refused, and the place in the data; 0 where it has none.
+/// Why a text is refused, and the place in the data, if it has one.
 #[derive(Clone, Copy, Debug, PartialEq, Eq)]
 pub struct Stop {
     pub refusal: Refusal,
-    pub place: Place,
+    pub place: Option<Place>,
 }
 
 impl From<Refusal> for Stop {
@@ -55,7 +54,7 @@ impl From<Refusal> for Stop {
     fn from(refusal: Refusal) -> Stop {
         Stop {
             refusal,
-            place: Place(0),
+            place: None,
         }
     }
 }

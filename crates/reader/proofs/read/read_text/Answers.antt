@@ -5,6 +5,7 @@ use Rattle.rules.specs.Fields.{fields_diagnosed}
 use Rattle.rules.specs.Reading.{lent_records}
 use Rattle.scan.specs.Parts.{part_of}
 use Rattle.stores.specs.Diagnostics.{list_after_all, count_after_all}
+use Rattle.view.specs.Refusals.{stop_in}
 use Rattle.reader.specs.Fields.{data_in}
 use Rattle.reader.specs.Answer.{lent_words}
 use Rattle.reader.proofs.ReadLaws.{Fielded, entry_refused, no_data, no_data_in, reads_early, same_records, text_reads}
@@ -19,7 +20,7 @@ pub returns-in_default-clause-reads : goal.returns-in_default-clause-reads
 returns-in_default-clause-reads c =
     let lent = lent_words c.args.notes.now.cells.now c.args.bars.now.cells.now c.args.figure.now c.args.diagnostics.now.list.now in
     no_data c.args.text.now (lent_records lent) c.in_ok-check_text.ensures.checked
-    (sym (ap (λ (f : fields.Fields). f.data_value) c.fields_of-fields.ensures.fields) ∙ no_data_in c.fields_of-fields.result.data c.in_default.not-Some) ∙ ap some (sym c.into.ensures)
+    (sym (ap (λ (f : fields.Fields). f.data_value) c.fields_of-fields.ensures.fields) ∙ no_data_in c.fields_of-fields.result.data c.in_default.not-Some) ∙ ap (λ s. some (stop_in s)) (sym c.into.ensures)
 
 pub returns-clause-reads : goal.returns-clause-reads
 returns-clause-reads c =

@@ -44,7 +44,7 @@ pub returns-in-Marking-Tie-clause-token : goal.returns-in-Marking-Tie-clause-tok
 returns-in-Marking-Tie-clause-token c = let h = c.tie.ensures.tied c.args.figure.now in search rules
 
 pub returns-in-Colon-clause-token : goal.returns-in-Colon-clause-token
-returns-in-Colon-clause-token c = let h = c.colon.ensures.remarked c.args.figure.now in search rules
+returns-in-Colon-clause-token c = let h = c.remark_alone.ensures.remarked c.args.figure.now in search rules
 
 pub returns-in-Unknown-clause-token : goal.returns-in-Unknown-clause-token
-returns-in-Unknown-clause-token c = let h = c.unknown.ensures.remarked c.args.figure.now in search rules
+returns-in-Unknown-clause-token c = let h = c.remark_alone-in-Unknown.ensures.remarked c.args.figure.now in search rules
