@@ -126,6 +126,7 @@ impl Head {
     }
 
     /// Its bit map: clef, key, meter, left, right.
+    // Nested, as its definition: a fold over the bits, from behind, is no plainer.
     pub fn map(self) -> u8
         ensures { result ≡ bit_map (head_bits (card_head self)) }
     {

@@ -193,6 +193,7 @@ impl Note {
     ghost use Rattle.cards.specs.Values.{card_note};
 
     /// Its bit map: kind, ties, beam, tuplet, marks, pitches.
+    // Nested, as its definition: a fold over the bits, from behind, is no plainer.
     pub fn map(&self) -> u8
         ensures { result ≡ bit_map (note_bits (card_note self.now)) }
     {
