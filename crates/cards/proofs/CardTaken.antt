@@ -18,7 +18,7 @@ use Rattle.cards.specs.Card.{Note, Head, Bar, Form, note_bytes, head_bits, head_
 use Rattle.cards.specs.Answers.{HasCard, Found}
 use Rattle.cards.specs.Taken.{Front, if_holds, byte_taken, number_taken, field_taken, key_taken, note_taken, notes_taken, head_in, counted, such_map, head_taken, bar_behind, bar_taken, bars_taken, front_taken, whole, card_taken}
 use Rattle.cards.proofs.FieldLaws.{all_hold, bit-read, stands-not}
-use Rattle.cards.proofs.TakenLaws.{taken_then, if_taken, byte_sound, number_sound, number_whole, field_sound, field_whole, TakenEach, repeated_sound, repeated_whole, taken_each, every_more}
+use Rattle.cards.proofs.TakenLaws.{taken_then, if_taken, byte_sound, number_sound, number_whole, low_bytes, field_sound, field_whole, TakenEach, repeated_sound, repeated_whole, taken_each, every_more}
 use Rattle.cards.proofs.NoteTaken.{note_sound, note_whole}
 
 -- ---- a bar's head
@@ -88,6 +88,10 @@ head_sound bytes y e =
     let front : bytes ≡ head_bytes count h ++ r8 = rw (byte_sound bytes e0, number_sound 4 r0 e1, (field_sound (bit_in 0 map) r1 e2).0, key_sound (bit_in 1 map) r2 (key, r3) e3, (field_sound (bit_in 2 map) r3 e4).0, (field_sound (bit_in 2 map) r4 e5).0, (field_sound (bit_in 2 map) r5 e6).0, (field_sound (bit_in 3 map) r6 e7).0, (field_sound (bit_in 4 map) r7 e8).0) row in
     (front ∙ (λ i. head_bytes (c.1 i).0 (c.1 i).1 ++ c.2 i), (λ i. such_head (sym c.1 i).1) ∙ t.0))))))))))
 
+head_by : (count c : ℕ) (h : Head) → number 4 count ≡ number 4 c → head_bytes count h ≡ head_bytes c h
+unfolding head_bytes
+head_by count c h e = rw e
+
 pub head_whole : (count : ℕ) (h : Head) (r : List ℕ) → count < 256 ^ 4 → such_head h ≡ true → head_taken (head_bytes count h ++ r) ≡ some ((count, h), r)
 unfolding head_taken such_head
 head_whole count h r few s =
@@ -118,6 +122,13 @@ head_whole count h r few s =
     symbol : (b : Bool) → leb h.symbol (cond b 2 0) ≡ true → b ≡ false → h.symbol ≡ 0
     symbol true e f = absurd cc
     symbol false e f = omega (arith, leb-true h.symbol 0 e)
+
+-- whatever the count, since its four bytes are a number's
+pub head_read : (count : ℕ) (h : Head) (r : List ℕ) → such_head h ≡ true → (c : ℕ) × (head_taken (head_bytes count h ++ r) ≡ some ((c, h), r))
+head_read count h r s =
+    let n = low_bytes 4 count in
+    let same : head_bytes count h ≡ head_bytes n.0 h = head_by count n.0 h n.2 in
+    (n.0, ap (λ b. head_taken (b ++ r)) same ∙ head_whole n.0 h r n.1 s)
 
 -- ---- bars
 

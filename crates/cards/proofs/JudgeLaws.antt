@@ -1,7 +1,7 @@
 -- What such pitches and notes are, a fact a field. Assumes nothing.
 use Prim.Native.Nat.{ℕ, ◌+◌, ◌*◌, ◌^◌, ◌%◌, ◌≤◌}
 use native.Mathlib.Omega.{arith}
-use mathlib.Core.Path.{◌≡◌, refl}
+use mathlib.Core.Path.{◌≡◌, refl, sym, ◌∙◌}
 use mathlib.Core.Bool.{Bool, true, false, cond, ◌||◌}
 use lib.ListN.{length, drop, get_or}
 use lib.Dec.{eqb, leb, ltb}
@@ -12,7 +12,10 @@ use Rattle.rules.specs.Records.{is_rest_kind}
 use Rattle.rules.specs.Words.{power_of_two}
 use Rattle.tokens.proofs.Below.{below as below_all}
 use Rattle.cards.specs.Fields.{stands, holds, every, between}
-use Rattle.cards.specs.Values.{such_meter}
+use Rattle.cards.specs.Values.{such_meter, card_pitches, numbered}
+use Rattle.cards.specs.WordPitches.{Counts}
+use Rattle.cards.specs.declared.notes.Pitches.{Pitches}
+use Rattle.cards.specs.declared.notes.Numbers.{Numbers}
 use mathlib.Core.List.{List}
 use lib.IntN.{ℤ, pos}
 use Rattle.cards.specs.Pieces.{parts, capped}
@@ -192,6 +195,36 @@ module _ (form : Form) (bar : ℕ) (w : List ℤ) where
   pub note_pitches : number_at w 10 ≤ 8 → (note_of w).pitches ≡ parts pitch_of pitch_size (number_at w 10) (drop 12 w)
   unfolding note_of
   note_pitches few = rw (le-leb (number_at w 10) 8 few)
+
+-- the numbers of a note's words
+abbrev pub numbers_in : ℕ → List ℤ → Numbers
+numbers_in place w = record {
+  place = place;
+  kind = get_or w 1 (pos 0);
+  duration = get_or w 2 (pos 0);
+  dots = get_or w 3 (pos 0);
+  ties = get_or w 4 (pos 0);
+  beam = get_or w 5 (pos 0);
+  actual = get_or w 6 (pos 0);
+  mark_count = get_or w 8 (pos 0);
+  marks = get_or w 9 (pos 0);
+}
+
+-- with its pitches they are that note
+pub note_like : (form : Form) (bar : ℕ) (w : List ℤ) (place : ℕ) (qs : Pitches) → place ≡ number_at w 0 → Counts form w qs → numbered (numbers_in place w) (card_pitches qs) ≡ note_of w
+unfolding note_of
+note_like form bar w place qs e n = λ i. record {
+  place = e i;
+  duration = number_at w 2;
+  dots = number_at w 3;
+  kind = number_at w 1;
+  ties = number_at w 4;
+  beam = number_at w 5;
+  actual = number_at w 6;
+  mark_count = number_at w 8;
+  marks = number_at w 9;
+  pitches = (n.are ∙ sym (note_pitches form bar w n.few)) i;
+}
 
 module _ (first : ℕ) (w : List ℤ) where
   pub record HeadWordsFit : Type 0 where

@@ -52,6 +52,18 @@ number_whole (suc width) n r h =
     let t : ltb (n % 256) 256 ≡ true = lt-ltb (n % 256) 256 (omega arith) in
     rw (number_whole width (n / 256) r k, t, mod-add-div n 256)
 
+-- the bytes of any number are those of one that has no more
+pub low_bytes : (width n : ℕ) → (k : ℕ) × (k < 256 ^ width) × (number width n ≡ number width k)
+unfolding number
+low_bytes zero n = (0, omega arith, refl)
+low_bytes (suc width) n =
+    let m = low_bytes width (n / 256) in
+    let low = n % 256 in
+    let small : low < 256 = omega arith in
+    let front : (low + 256 * m.0) % 256 ≡ low = rw (add-mul-mod_self_left low 256 m.0) (mod-eq_of_lt small) in
+    let rest : (low + 256 * m.0) / 256 ≡ m.0 = rw (add-mul-div_left low m.0 {y = 256} (omega arith), div-eq_of_lt small) (zero-add m.0) in
+    (low + 256 * m.0, rw pow-suc (omega (arith, m.1)), (λ i. sym front i ∷ m.2 i) ∙ (λ i. (low + 256 * m.0) % 256 ∷ number width (sym rest i)))
+
 pub field_sound : (bit : Bool) (bytes : List ℕ) {p : ℕ × List ℕ} → field_taken bit bytes ≡ some p → (bytes ≡ under bit (p.0 ∷ []) ++ p.1) × (bit ≡ false → p.0 ≡ 0)
 field_sound true bytes e = (byte_sound bytes e, λ f. absurd cc)
 field_sound false bytes e = let s = some-same e in ((λ i. (s i).1), λ f. sym (λ i. (s i).0))

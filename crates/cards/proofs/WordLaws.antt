@@ -1,17 +1,15 @@
 -- Words as numbers. Assumes nothing.
-use Prim.Native.Nat.{ℕ, zero, suc, ◌+◌, ◌<◌, ◌≤◌}
+use Prim.Native.Nat.{ℕ, ◌<◌, ◌≤◌}
 use native.Mathlib.Omega.{arith}
-use native.Mathlib.Numerals.{add-one}
 use mathlib.Core.Path.{◌≡◌, refl}
 use mathlib.Core.Bool.{Bool, true, false, ◌||◌}
-use mathlib.Core.List.{List, [], ◌∷◌}
-use lib.IntN.{ℤ, pos}
-use lib.ListN.{length, drop}
-use lib.Seq.{drop-cons}
+use mathlib.Core.List.{List}
+use lib.IntN.{ℤ}
+use lib.ListN.{drop}
 use lib.Dec.{eqb, leb, ltb}
-use borrow.Author.Tests.{ne_eqb, leb-true, ltb-true, eqb-true}
+use borrow.Author.Tests.{leb-true, ltb-true, eqb-true}
 use Rattle.rules.specs.Words.{power_of_two}
-use Rattle.cards.specs.Judged.{number_at, pitch_of, note_of, all_zero}
+use Rattle.cards.specs.Judged.{number_at, pitch_of, note_of}
 use Rattle.rules.specs.Limits.{pitch_size, count_limit, mark_capacity}
 use Rattle.cards.specs.Fields.{between, every}
 use Rattle.cards.specs.Pieces.{capped, parts}
@@ -19,25 +17,6 @@ use Rattle.cards.specs.Card.{Form, such_pitch, such_note, note_tests}
 use Rattle.std.proofs.lemmas.Bool.{and_parts}
 use Rattle.cards.proofs.FieldLaws.{all_hold}
 use Rattle.tokens.proofs.Below.{below as below_all}
-
--- ---- words that are 0
-
-pub zero_more : (w : List ℤ) (i : ℕ) → i < length w → number_at w i ≡ 0 → all_zero (drop i w) ≡ all_zero (drop (i + 1) w)
-unfolding all_zero
-zero_more w i h e = rw (add-one, drop-cons w i (pos 0) h, e)
-
-pub zero-not : (w : List ℤ) (i : ℕ) → i < length w → (number_at w i ≡ 0 → ⊥) → all_zero (drop i w) ≡ false
-unfolding all_zero
-zero-not w i h e = rw (drop-cons w i (pos 0) h, ne_eqb (number_at w i) 0 e)
-
-pub zero-end : (w : List ℤ) (i : ℕ) → i ≡ length w → all_zero (drop i w) ≡ true
-unfolding all_zero
-zero-end [] zero e = refl
-zero-end [] (suc i) e = refl
-zero-end (z ∷ w) zero e = absurd (omega arith)
-zero-end (z ∷ w) (suc i) e = zero-end w i (omega arith)
-
--- ---- what such a note's words are below
 
 marks-small : (count marks : ℕ) → count ≤ mark_capacity → marks < power_of_two count → marks < 256
 marks-small count marks h k = omega (arith, leb-true (power_of_two count) 256 (below_all (λ (n : ℕ). leb (power_of_two n) 256) 9 refl count (omega arith)), k)

@@ -41,6 +41,8 @@ impl Head {
     ghost use Rattle.cards.specs.Values.{card_head, head_numbered};
     ghost use Rattle.cards.specs.Places.{Judges};
 
+    // Not marks' functions of these names, here and below: these refuse by error.
+
     // The clef of a number, none for 0.
     fn clef_of(number: i32) -> Result<Option<Clef>, CardError>
         ensures { MatchResult result (λ c. (clef_value c ≡ natural number) × (natural number ≤ 8))
@@ -124,6 +126,7 @@ impl Head {
     }
 
     /// Its bit map: clef, key, meter, left, right.
+    // Nested, as its definition: a fold over the bits, from behind, is no plainer.
     pub fn map(self) -> u8
         ensures { result ≡ bit_map (head_bits (card_head self)) }
     {
@@ -145,6 +148,7 @@ impl Head {
     }
 
     /// The number of its clef, 0 for none.
+    // A method, as the numbers below: `From<Clef> for u8` would stand in tokens.
     pub fn clef_number(self) -> u8
         ensures { result ≡ clef_value self.clef }
     {
@@ -170,6 +174,9 @@ impl Head {
         }
     }
 }
+
+// Functions, here and below: `From<Symbol> for u8` would stand in tokens, and only a card has it
+// as a byte.
 
 /// The number of a symbol, 0 for none.
 fn symbol_number(symbol: Option<Symbol>) -> u8

@@ -1,5 +1,5 @@
 // A note and its pitches.
-ghost use Rattle.std.specs.Prelude.{◌≡◌, ◌≤◌, ◌||◌, cond, eqb, ltb, length};
+ghost use Rattle.std.specs.Prelude.{◌≡◌, ◌≤◌, ◌||◌, false, cond, eqb, ltb, length, MatchResult};
 ghost use Rattle.rules.specs.Limits.{count_limit, mark_capacity};
 ghost use Rattle.rules.specs.Words.{power_of_two};
 ghost use Rattle.cards.specs.Fields.{between};
@@ -15,6 +15,7 @@ use stores::note::NoteKind;
 use tokens::rhythm::{Duration, Length, Octave, Step, normal_of};
 
 /// A pitch of a note; its alteration plus 2.
+// Not stores' pitch: its alteration counts from 0, as in the card's byte.
 #[derive(Clone, Copy, Debug, PartialEq, Eq)]
 pub struct Pitch {
     pub place: u32,
@@ -25,6 +26,8 @@ pub struct Pitch {
 }
 
 /// The pitches of a note, 8 at most.
+// An array and a count: no heap, and `ArrayVec` fills its empty places with a default, which no
+// pitch is. Facts of a width are no ghost fields: the pitches are of none.
 #[derive(Clone, Copy)]
 pub struct Pitches {
     pub list: [Pitch; 8],
@@ -34,6 +37,7 @@ pub struct Pitches {
 }
 
 /// A note.
+// Ties, beam and marks stay numbers: a card copies them, and only their ranges are tested.
 #[derive(Clone, Copy)]
 pub struct Note {
     pub place: u32,
@@ -67,6 +71,7 @@ impl Pitch {
     ghost use Rattle.cards.specs.Places.{Judges};
 
     /// The pitch of these numbers.
+    // Numbers, as in `Numbers`: a card's or a record's, in no range yet.
     #[inline(always)]
     pub fn new<W: PlaceWidth>(
         place: u32,
@@ -77,12 +82,7 @@ impl Pitch {
         ensures { Judges (such_pitch W.form) card_pitch
             (pitch_numbered place step octave alter) result }
     {
-        if place < 1 {
-            return Err(CardError::Invalid);
-        }
-        if W::greatest() < place {
-            return Err(CardError::Invalid);
-        }
+        let place = placed::<W>(place)?;
         let step = Step::try_from(step)?;
         let octave = Octave::try_from(octave)?;
         let alter = raised(alter, 2, 4)?;
@@ -154,12 +154,7 @@ impl Note {
         ensures { Judges (such_note W.form) card_note
             (numbered numbers (card_pitches pitches)) result }
     {
-        if numbers.place < 1 {
-            return Err(CardError::Invalid);
-        }
-        if W::greatest() < numbers.place {
-            return Err(CardError::Invalid);
-        }
+        let place = placed::<W>(numbers.place)?;
         let kind = NoteKind::try_from(numbers.kind)?;
         let duration = Duration::try_from(numbers.duration)?;
         let dots = up_to(numbers.dots, Length::MAX_DOTS as u8)?;
@@ -178,7 +173,7 @@ impl Note {
             return Err(CardError::Invalid);
         }
         Ok(Note {
-            place: numbers.place,
+            place,
             kind,
             length: Length { duration, dots },
             ties,
@@ -198,6 +193,7 @@ impl Note {
     ghost use Rattle.cards.specs.Values.{card_note};
 
     /// Its bit map: kind, ties, beam, tuplet, marks, pitches.
+    // Nested, as its definition: a fold over the bits, from behind, is no plainer.
     pub fn map(&self) -> u8
         ensures { result ≡ bit_map (note_bits (card_note self.now)) }
     {
@@ -219,6 +215,17 @@ impl Note {
     }
 }
 
+// A place that such a card takes.
+fn placed<W: PlaceWidth>(place: u32) -> Result<u32, CardError>
+    ensures { MatchResult result (λ p. (p ≡ place) × (1 ≤ place) × (place ≤ W.form.greatest))
+        (λ _. between 1 W.form.greatest place ≡ false) }
+{
+    if place < 1 || W::greatest() < place {
+        return Err(CardError::Invalid);
+    }
+    Ok(place)
+}
+
 // None, or 3 or more.
 fn is_tuplet(actual: u8) -> bool
     ensures { result ≡ (eqb actual 0 || between 3 count_limit actual) }
@@ -235,7 +242,8 @@ fn are_marks(count: u8, marks: u8) -> bool
     u32::from(marks) < 1 << count
 }
 
-// Functions, here and below: `From<NoteKind> for u8` would stand in stores, and only a card has it as a byte.
+// Functions, here and below: `From<NoteKind> for u8` would stand in stores, and only a card has
+// it as a byte.
 
 /// The number of a kind.
 pub fn kind_number(kind: NoteKind) -> u8

@@ -24,16 +24,14 @@ pub fn up_to(number: i32, most: u8) -> Result<u8, CardError>
     ensures { MatchResult result (λ n. (pos n ≡ number) × (n ≤ most))
         (λ _. leb (natural number) most ≡ false) }
 {
-    if number < 0 {
-        return Err(CardError::Invalid);
+    match u8::try_from(number) {
+        Ok(number) if number <= most => Ok(number),
+        _ => Err(CardError::Invalid),
     }
-    if i32::from(most) < number {
-        return Err(CardError::Invalid);
-    }
-    Ok(number as u8)
 }
 
 // A number plus `k`, if that is from 0 to `most`.
+// By tests: `checked_add` and `u8::try_from` would be two more refusals for the same.
 pub fn raised(number: i32, k: u8, most: u8) -> Result<u8, CardError>
     requires { k ≤ most }
     ensures { MatchResult result (λ n. (n ≡ raised k number) × (n ≤ most))

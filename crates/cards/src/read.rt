@@ -74,7 +74,7 @@ impl Note {
     {
         let mut words = [0; NOTE];
         words[..FIRST_PITCH].copy_from_slice(&self.first_words(bar));
-        // By number: the record's words are changed in place.
+        // By number: std doesn't say what is in the cells after `chunks_exact_mut`.
         for i in 0..self.pitches.count {
             let at = FIRST_PITCH + i * PITCH;
             words[at..at + PITCH].copy_from_slice(&self.pitches.list[i].words());

@@ -13,22 +13,19 @@ use super::width::PlaceWidth;
 use std::marker::Model;
 use stores::cells::MAX_PITCHES;
 
-/// A card's bytes and an offset in them.
+/// The bytes of a card that are left.
 #[derive(Drop)]
 pub struct CardReader<'a> {
-    card: &'a [u8],
-    at: usize,
+    left: &'a [u8],
 }
 
-// Clauses see the bytes that are left.
+// Clauses see these bytes.
 impl<'a> Model for CardReader<'a> {
-    ghost use Rattle.std.specs.Prelude.{◌≡◌, ◌≤◌, ℕ, List, length, drop};
+    ghost use Rattle.std.specs.Prelude.{ℕ, List};
 
     ghost Value = { List ℕ };
 
-    ghost view = { λ r. drop r.at r.card.now };
-
-    ghost invariant = { λ r. r.at ≤ length r.card.now };
+    ghost view = { λ r. r.left.now };
 }
 
 impl<'a> CardReader<'a> {
@@ -38,7 +35,7 @@ impl<'a> CardReader<'a> {
     pub fn new(card: &'a [u8]) -> CardReader<'a>
         ensures { result ≡ card.entry.now }
     {
-        CardReader { card, at: 0 }
+        CardReader { left: card }
     }
 
     /// The next byte.
@@ -46,12 +43,11 @@ impl<'a> CardReader<'a> {
     pub fn byte(&mut self) -> Result<u8, CardError>
         ensures { Takes byte_taken (λ b. b) self.old result self.new }
     {
-        if self.at < self.card.len() {
-            let byte = self.card[self.at];
-            self.at += 1;
-            return Ok(byte);
-        }
-        Err(CardError::Invalid)
+        let Some((byte, left)) = self.left.split_first() else {
+            return Err(CardError::Invalid);
+        };
+        self.left = left;
+        Ok(*byte)
     }
 
     /// The number in the next two bytes, the low one first.
@@ -124,6 +120,7 @@ impl<'a> CardReader<'a> {
     }
 
     /// The next note.
+    // Field by field, in the card's order, here and in `head`.
     #[tactic(auto, unfolding(crate::specs::Taken::note_taken))]
     pub fn note<W: PlaceWidth>(&mut self) -> Result<Note, CardError>
         ensures { Takes (note_taken W.form) card_note self.old result self.new }
@@ -191,7 +188,7 @@ impl<'a> CardReader<'a> {
     pub(crate) fn is_done(&self) -> bool
         ensures { result ≡ eqb (length self.now) 0 }
     {
-        self.at == self.card.len()
+        self.left.is_empty()
     }
 }
 

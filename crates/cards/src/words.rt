@@ -82,12 +82,7 @@ impl Note {
 fn are_zero(words: &[i32]) -> bool
     ensures { result ≡ all_zero words.now }
 {
-    for word in words {
-        if natural(*word) != 0 {
-            return false;
-        }
-    }
-    true
+    words.iter().all(|word| *word == 0)
 }
 
 impl Head {

@@ -48,6 +48,7 @@ impl<'a> CardWriter<'a> {
         for words in bars.chunks_exact(BAR) {
             let count = self.bar::<W>(words, rest, number, first)?;
             rest = &rest[count as usize * NOTE..];
+            // Not by `zip(1..)`: a `1..` ends, and would have to be shown to end behind the bars.
             number += 1;
             first += count;
         }

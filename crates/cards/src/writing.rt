@@ -12,6 +12,7 @@ use super::width::PlaceWidth;
 use stores::cells::NOTE;
 
 /// A lent card and an offset in it; full once something didn't fit.
+// A flag, and no `?`: that the card doesn't fit is said only where the records are right.
 #[derive(Drop)]
 pub struct CardWriter<'a> {
     pub card: &'a mut [u8],

@@ -8,7 +8,6 @@ use Rattle.std.proofs.lemmas.Result.{MatchResult-from_err}
 use Rattle.tokens.specs.Steps.{edge_number}
 use Rattle.cards.specs.Judged.{natural}
 use Rattle.cards.specs.Card as card
-use Rattle.cards.specs.Card.{such_head}
 use Rattle.cards.specs.Values.{clef_value, key_value, key_numbered, numerator_of, denominator_of, symbol_of, head_numbered}
 use Rattle.cards.proofs.NumberLaws.{edges, edge_most, unnumbered}
 use Rattle.cards.proofs.JudgeLaws.{head_not, head_such}

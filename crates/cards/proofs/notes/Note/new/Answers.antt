@@ -15,17 +15,17 @@ use Rattle.cards.proofs.NumberLaws.{kinds, durations, unnumbered, kind_most, dur
 use Rattle.cards.proofs.JudgeLaws.{note_not, note_such, marks_small}
 use Rattle.cards.proofs.notes.Note.new.Goals as goal
 
-pub returns-then-numbers-lt1 : goal.returns-then-numbers-lt1
-returns-then-numbers-lt1 g c = note_not g.W.PlaceWidth.form _ (λ f. omega (arith, f.low))
-
-pub returns-then-greatest-numbers : goal.returns-then-greatest-numbers
-returns-then-greatest-numbers g c = note_not g.W.PlaceWidth.form _ (λ f. omega (arith, f.high, c.greatest.ensures))
+pub returns-in_err-place : goal.returns-in_err-place
+returns-in_err-place g c =
+    let form = g.W.PlaceWidth.form in
+    let e = c.in_err-place.ensures in
+    MatchResult-from_err _ _ _ c.from_residual.ensures.0 (λ _. note_not form _ (λ f. false≢true (sym e ∙ rw (le-leb 1 c.args.numbers.place f.low, le-leb c.args.numbers.place form.greatest f.high))))
 
 pub returns-in_err-kind : goal.returns-in_err-kind
 returns-in_err-kind g c =
     let fits : SFits w32 c.args.numbers.kind = search rules in
     let none = simp to_z-of_z at c.in_err-kind.ensures in
-    MatchResult-from_err _ _ _ c.from_residual.ensures.0 (λ _. note_not g.W.PlaceWidth.form _ (λ f. unnumbered kind_number c.args.numbers.kind none.1 (omega (arith, f.kind)) (kinds (natural c.args.numbers.kind) f.kind)))
+    MatchResult-from_err _ _ _ c.from_residual-in_err-kind.ensures.0 (λ _. note_not g.W.PlaceWidth.form _ (λ f. unnumbered kind_number c.args.numbers.kind none.1 (omega (arith, f.kind)) (kinds (natural c.args.numbers.kind) f.kind)))
 
 pub returns-in_err-duration : goal.returns-in_err-duration
 returns-in_err-duration g c =
@@ -99,6 +99,7 @@ returns g c =
     let fits₅ : SFits w32 c.args.numbers.actual = search rules in
     let fits₆ : SFits w32 c.args.numbers.mark_count = search rules in
     let fits₇ : SFits w32 c.args.numbers.marks = search rules in
+    let place = c.in_ok-place.ensures in
     let kind = ap natural (simp to_z-of_z at c.in_ok-kind.ensures) in
     let duration = ap natural (simp to_z-of_z at c.in_ok-duration.ensures) in
     let dots = simp to_z-of_z at c.in_ok-dots.ensures in
@@ -108,7 +109,7 @@ returns g c =
     let mark_count = simp to_z-of_z at c.in_ok-mark_count.ensures in
     let marks = simp to_z-of_z at c.in_ok-marks.ensures in
     let n : card.Note = record {
-      place = c.args.numbers.place;
+      place = c.in_ok-place.place;
       duration = duration_number c.in_ok-duration.duration;
       dots = c.in_ok-dots.dots;
       kind = kind_number c.in_ok-kind.kind;
@@ -120,7 +121,7 @@ returns g c =
       pitches = card_pitches c.args.pitches;
     } in
     let is : n ≡ numbered c.args.numbers (card_pitches c.args.pitches) = λ i. record {
-      place = c.args.numbers.place;
+      place = place.0 i;
       duration = duration i;
       dots = natural (dots.0 i);
       kind = kind i;
@@ -133,8 +134,8 @@ returns g c =
     } in (
       is,
       ap (such_note g.W.PlaceWidth.form) (sym is) ∙ note_such g.W.PlaceWidth.form n (record {
-        low = omega arith;
-        high = omega (arith, c.greatest.ensures);
+        low = omega (arith, place.0, place.1);
+        high = omega (arith, place.0, place.2);
         duration = duration_most c.in_ok-duration.duration;
         dots = dots.1;
         kind = kind_most c.in_ok-kind.kind;

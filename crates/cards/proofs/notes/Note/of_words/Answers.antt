@@ -1,5 +1,5 @@
 use Rattle.std.proofs.Common.{sym, ap, ◌∙◌, ◌≡◌, ◌*◌, ◌+◌, rules, w32, pos, get_or}
-use mathlib.Core.Bool.{false≢true}
+use mathlib.Core.Bool.{true, false≢true}
 use mir.Val.{SFits}
 use Rattle.std.proofs.lemmas.Int.{to_z-of_z}
 use Rattle.std.proofs.lemmas.Result.{MatchResult-from_err}
@@ -8,7 +8,7 @@ use Rattle.cards.specs.Judged.{number_at, note_of}
 use Rattle.cards.specs.Card as card
 use Rattle.cards.specs.Card.{such_note}
 use Rattle.cards.specs.Values.{card_note, card_pitches, numbered}
-use Rattle.cards.proofs.JudgeLaws.{words_not, fit_words, note_fits, note_pitches}
+use Rattle.cards.proofs.JudgeLaws.{words_not, fit_words, note_fits, note_pitches, numbers_in, note_like}
 use Rattle.cards.proofs.ValueLaws.{rest_of}
 use Rattle.cards.proofs.notes.Note.of_words.Goals as goal
 
@@ -27,7 +27,6 @@ returns-then-not-are_zero g c =
     words_not g.W.PlaceWidth.form c.args.bar w (λ f. false≢true (sym c.if-not-are_zero.true ∙ z ∙ f.zero))
 
 pub returns-in_err-note : goal.returns-in_err-note
-unfolding note_of
 returns-in_err-note g c =
     let w = c.args.words.now in
     let form = g.W.PlaceWidth.form in
@@ -40,18 +39,16 @@ returns-in_err-note g c =
     let f6 : SFits w32 (get_or w 6 (pos 0)) = search rules in
     let f8 : SFits w32 (get_or w 8 (pos 0)) = search rules in
     let f9 : SFits w32 (get_or w 9 (pos 0)) = search rules in
-    let n = c.in_ok-pitches.ensures in
     let place = simp to_z-of_z at c.natural.ensures in
     let e = simp to_z-of_z at c.in_err-note.ensures in
-    MatchResult-from_err _ _ _ c.from_residual-in_err-note.ensures.0 (λ _. words_not form c.args.bar w (λ f.
-    false≢true (sym e ∙ rw (place, n.are, ← note_pitches form c.args.bar w n.few) f.such)))
+    let like = note_like form c.args.bar w c.natural.result c.in_ok-pitches.pitches place c.in_ok-pitches.ensures in
+    MatchResult-from_err _ _ _ c.from_residual-in_err-note.ensures.0 (λ _. words_not form c.args.bar w (λ f. false≢true (sym e ∙ ap (such_note form) like ∙ f.such)))
 
 pub returns-then-natural-from : goal.returns-then-natural-from
 unfolding note_of
 returns-then-natural-from g c =
     let w = c.args.words.now in
     let form = g.W.PlaceWidth.form in
-    let bar = c.args.bar in
     let f0 : SFits w32 (get_or w 0 (pos 0)) = search rules in
     let f1 : SFits w32 (get_or w 1 (pos 0)) = search rules in
     let f2 : SFits w32 (get_or w 2 (pos 0)) = search rules in
@@ -62,30 +59,18 @@ returns-then-natural-from g c =
     let f7 : SFits w32 (get_or w 7 (pos 0)) = search rules in
     let f8 : SFits w32 (get_or w 8 (pos 0)) = search rules in
     let f9 : SFits w32 (get_or w 9 (pos 0)) = search rules in
-    let n = c.in_ok-pitches.ensures in
     let place = simp to_z-of_z at c.natural.ensures in
     let e = simp to_z-of_z at c.in_ok-note.ensures in
     let e7 = simp to_z-of_z at c.natural-2.ensures in
-    let like : numbered (record { place = c.natural.result; kind = get_or w 1 (pos 0); duration = get_or w 2 (pos 0); dots = get_or w 3 (pos 0); ties = get_or w 4 (pos 0); beam = get_or w 5 (pos 0); actual = get_or w 6 (pos 0); mark_count = get_or w 8 (pos 0); marks = get_or w 9 (pos 0) }) (card_pitches c.in_ok-pitches.pitches) ≡ note_of w = λ i. record {
-      place = place i;
-      duration = number_at w 2;
-      dots = number_at w 3;
-      kind = number_at w 1;
-      ties = number_at w 4;
-      beam = number_at w 5;
-      actual = number_at w 6;
-      mark_count = number_at w 8;
-      marks = number_at w 9;
-      pitches = (n.are ∙ sym (note_pitches form bar w n.few)) i;
-    } in
+    let like = note_like form c.args.bar w c.natural.result c.in_ok-pitches.pitches place c.in_ok-pitches.ensures in
     let is : card_note c.in_ok-note.note ≡ note_of w = e.0 ∙ like in
     let actual : c.in_ok-note.note.actual ≡ number_at w 6 = ap (λ (x : card.Note). x.actual) is in
-    words_not form bar w (λ f. c.if-natural-from.true (e7 ∙ f.normal ∙ ap normal_word (sym actual) ∙ sym c.normal.ensures ∙ sym c.from.ensures))
+    words_not form c.args.bar w (λ f. c.if-natural-from.true (e7 ∙ f.normal ∙ ap normal_word (sym actual) ∙ sym c.normal.ensures ∙ sym c.from.ensures))
 
 pub returns-then-natural-bar : goal.returns-then-natural-bar
 returns-then-natural-bar g c =
     let w = c.args.words.now in
-    let f : SFits w32 (get_or w 11 (pos 0)) = search rules in
+    let f11 : SFits w32 (get_or w 11 (pos 0)) = search rules in
     let e = simp to_z-of_z at c.natural-3.ensures in
     words_not g.W.PlaceWidth.form c.args.bar w (λ f. c.if-natural-bar.true (e ∙ f.number))
 
@@ -94,40 +79,18 @@ unfolding note_of
 returns g c =
     let w = c.args.words.now in
     let form = g.W.PlaceWidth.form in
-    let bar = c.args.bar in
-    let f0 : SFits w32 (get_or w 0 (pos 0)) = search rules in
-    let f1 : SFits w32 (get_or w 1 (pos 0)) = search rules in
-    let f2 : SFits w32 (get_or w 2 (pos 0)) = search rules in
-    let f3 : SFits w32 (get_or w 3 (pos 0)) = search rules in
-    let f4 : SFits w32 (get_or w 4 (pos 0)) = search rules in
-    let f5 : SFits w32 (get_or w 5 (pos 0)) = search rules in
-    let f6 : SFits w32 (get_or w 6 (pos 0)) = search rules in
-    let f7 : SFits w32 (get_or w 7 (pos 0)) = search rules in
-    let f8 : SFits w32 (get_or w 8 (pos 0)) = search rules in
-    let f9 : SFits w32 (get_or w 9 (pos 0)) = search rules in
-    let f11 : SFits w32 (get_or w 11 (pos 0)) = search rules in
     let n = c.in_ok-pitches.ensures in
-    let place = simp to_z-of_z at c.natural.ensures in
-    let e = simp to_z-of_z at c.in_ok-note.ensures in
-    let e7 = simp to_z-of_z at c.natural-2.ensures in
-    let like : numbered (record { place = c.natural.result; kind = get_or w 1 (pos 0); duration = get_or w 2 (pos 0); dots = get_or w 3 (pos 0); ties = get_or w 4 (pos 0); beam = get_or w 5 (pos 0); actual = get_or w 6 (pos 0); mark_count = get_or w 8 (pos 0); marks = get_or w 9 (pos 0) }) (card_pitches c.in_ok-pitches.pitches) ≡ note_of w = λ i. record {
-      place = place i;
-      duration = number_at w 2;
-      dots = number_at w 3;
-      kind = number_at w 1;
-      ties = number_at w 4;
-      beam = number_at w 5;
-      actual = number_at w 6;
-      mark_count = number_at w 8;
-      marks = number_at w 9;
-      pitches = (n.are ∙ sym (note_pitches form bar w n.few)) i;
-    } in
+    let place : c.natural.result ≡ number_at w 0 = search (rules, c.natural.ensures) in
+    let k = numbered (numbers_in c.natural.result w) (card_pitches c.in_ok-pitches.pitches) in
+    let e : (card_note c.in_ok-note.note ≡ k) × (such_note form k ≡ true) = search (rules, c.in_ok-note.ensures) in
+    let e7 : c.natural-2.result ≡ number_at w 7 = search (rules, c.natural-2.ensures) in
+    let e11 : c.natural-3.result ≡ number_at w 11 = search (rules, c.natural-3.ensures) in
+    let like = note_like form c.args.bar w c.natural.result c.in_ok-pitches.pitches place n in
     let is : card_note c.in_ok-note.note ≡ note_of w = e.0 ∙ like in
     let actual : c.in_ok-note.note.actual ≡ number_at w 6 = ap (λ (x : card.Note). x.actual) is in
-    let e11 = simp to_z-of_z at c.natural-3.ensures in
     let z = rw (rest_of w (12 + 4 * c.in_ok-pitches.pitches.count), n.count) at c.are_zero.ensures in (
       is,
-      fit_words form bar w (record {
+      fit_words form c.args.bar w (record {
         few = n.few;
         normal = sym e7 ∙ c.if-natural-from.false ∙ c.from.ensures ∙ c.normal.ensures ∙ ap normal_word actual;
         number = sym e11 ∙ c.if-natural-bar.false;
