@@ -69,7 +69,7 @@ pub fn beginning(text: &[u8], most: usize) -> &[u8]
     ensures { result.now ≡ take (beginning_size most text.now) text.entry.now }
 {
     let mut rest = text;
-    // So many turns: no list has the characters.
+    // By what is left: of the items of `Characters` the sizes would have to be added up.
     for _ in 0..most {
         if rest.is_empty() {
             break;
