@@ -96,29 +96,23 @@ impl<'a, 'd> Shown<'a, 'd> {
             .any(|at| at.0 as usize == place)
     }
 
-    /// The last place of a piece that has a caret; where none has one, that before the piece.
-    fn last_remarked(&self, piece: Piece<'_>) -> usize {
-        let mut last = piece.before;
-        // A place is no item of a list.
-        for before in piece.before..piece.end {
-            if self.is_remarked(before + 1) {
-                last = before + 1;
-            }
-        }
-        last
+    /// The last place of a piece that has a caret, from 0, if one has.
+    fn last_remarked(&self, piece: Piece<'_>) -> Option<usize> {
+        (piece.before..piece.end)
+            .rev()
+            .find(|before| self.is_remarked(before.saturating_add(1)))
     }
 
     /// A row of carets under a piece of the data, where something is remarked there.
     fn show_carets<W: Write>(&self, out: &mut W, piece: Piece<'_>) -> io::Result<()> {
-        let last = self.last_remarked(piece);
-        if last == piece.before {
+        let Some(last) = self.last_remarked(piece) else {
             return Ok(());
-        }
+        };
         let margin = "";
         write!(out, "{margin:MARGIN$}")?;
         // A place is no item of a list.
-        for before in piece.before..last {
-            out.write_all(if self.is_remarked(before + 1) {
+        for before in piece.before..=last {
+            out.write_all(if self.is_remarked(before.saturating_add(1)) {
                 b"^"
             } else {
                 b" "
