@@ -1,6 +1,6 @@
 // The first layer: the typed line, with a ruler of places, and the remarks under it.
 use crate::pieces::{Piece, Pieces};
-use crate::refusals::{place_of, show_refusal};
+use crate::refusals::{last_line, place_of, show_refusal};
 use crate::shown::{MARGIN, Shown};
 use rows::headings::show_heading;
 use rows::text::Text;
@@ -33,11 +33,7 @@ fn show_ruler<W: Write>(out: &mut W, piece: Piece<'_>) -> io::Result<()> {
 
 /// What the line of an offset has before it.
 fn beginning_of_line(text: &[u8], offset: Offset) -> &[u8] {
-    let before = text.get(..offset.0 as usize).unwrap_or(text);
-    before
-        .rsplit(|byte| *byte == b'\n')
-        .next()
-        .unwrap_or(before)
+    last_line(text.get(..offset.0 as usize).unwrap_or(text))
 }
 
 /// A line in pieces, the first with its number.
