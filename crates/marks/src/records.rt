@@ -1,5 +1,5 @@
 // Records by their fields.
-ghost use Rattle.std.specs.Prelude.{◌≡◌, ◌+◌, ◌≤◌, length, take, not};
+ghost use Rattle.std.specs.Prelude.{◌≡◌, ◌+◌, ◌<◌, ◌≤◌, length, take, not};
 ghost use Rattle.std.specs.List.{prefix_len};
 ghost use Rattle.rules.specs.Records.{is_grace_kind};
 ghost use Rattle.marks.specs.Marks.{record_place, end_at, has_place};
@@ -192,17 +192,24 @@ fn count_at(records: &[[i32; NOTE]], place: Place) -> usize
         .count()
 }
 
-/// The records of notes, in order.
+/// Records of so many words, in order.
 #[derive(Clone, Copy)]
-pub struct Notes<'a>(pub &'a [[i32; NOTE]]);
+pub struct Records<'a, const N: usize>(pub &'a [[i32; N]]);
 
-impl<'a> Notes<'a> {
+/// The records of notes.
+pub type Notes<'a> = Records<'a, NOTE>;
+
+/// The records of bars.
+pub type Bars<'a> = Records<'a, BAR>;
+
+impl<'a, const N: usize> Records<'a, N> {
     /// The first records of lent words, so many.
-    pub fn new(words: &'a [i32], count: usize) -> Notes<'a>
-        ensures { result.0.now ≡ take count (records_in NOTE words.entry.now) }
+    pub fn new(words: &'a [i32], count: usize) -> Records<'a, N>
+        requires { 0 < N }
+        ensures { result.0.now ≡ take count (records_in N words.entry.now) }
     {
-        let (records, _) = words.as_chunks::<NOTE>();
-        Notes(&records[..count.min(records.len())])
+        let (records, _) = words.as_chunks::<N>();
+        Records(&records[..count.min(records.len())])
     }
 
     pub fn len(self) -> usize
@@ -210,7 +217,9 @@ impl<'a> Notes<'a> {
     {
         self.0.len()
     }
+}
 
+impl<'a> Records<'a, NOTE> {
     /// The record of a note, by its number from 0.
     pub fn get(self, number: usize) -> Option<Note<'a>>
         ensures { TheOne (λ note. IsRecordAt self.entry.0.now number note.0.now) result }
@@ -229,25 +238,7 @@ impl<'a> Notes<'a> {
     }
 }
 
-/// The records of bars, in order.
-#[derive(Clone, Copy)]
-pub struct Bars<'a>(pub &'a [[i32; BAR]]);
-
-impl<'a> Bars<'a> {
-    /// The first records of lent words, so many.
-    pub fn new(words: &'a [i32], count: usize) -> Bars<'a>
-        ensures { result.0.now ≡ take count (records_in BAR words.entry.now) }
-    {
-        let (records, _) = words.as_chunks::<BAR>();
-        Bars(&records[..count.min(records.len())])
-    }
-
-    pub fn len(self) -> usize
-        ensures { result ≡ length self.entry.0.now }
-    {
-        self.0.len()
-    }
-
+impl<'a> Records<'a, BAR> {
     /// What the record of a bar says, by its number from 0.
     pub fn get(self, number: usize) -> Option<Bar>
         ensures { TheOne (IsBarAt self.entry.0.now number) result }
