@@ -1,5 +1,5 @@
 // Records by their fields.
-ghost use Rattle.std.specs.Prelude.{◌≡◌, ◌+◌, ◌<◌, ◌≤◌, length, take, not};
+ghost use Rattle.std.specs.Prelude.{◌≡◌, ◌+◌, ◌≤◌, length, take, not};
 ghost use Rattle.std.specs.List.{prefix_len};
 ghost use Rattle.rules.specs.Records.{is_grace_kind};
 ghost use Rattle.marks.specs.Marks.{record_place, end_at, has_place};
@@ -50,6 +50,7 @@ impl<'a> Note<'a> {
         Place(natural(self.0[PLACE]))
     }
 
+    /// Its kind; a word that is no kind's number stands for a whole-bar rest.
     #[tactic(auto, using(crate::proofs::RecordLaws::kind_read))]
     pub fn kind(self) -> NoteKind
         ensures { result ≡ kind_of (word_of self.entry.0.now KIND) }
@@ -82,18 +83,21 @@ impl<'a> Note<'a> {
         })
     }
 
+    /// Whether a tie starts at it.
     pub fn tie_starts(self) -> bool
         ensures { result ≡ tie_starts (number_of self.entry.0.now TIES) }
     {
         matches!(natural(self.0[TIES]), 1 | 3)
     }
 
+    /// Whether a tie ends at it.
     pub fn tie_ends(self) -> bool
         ensures { result ≡ tie_ends (number_of self.entry.0.now TIES) }
     {
         matches!(natural(self.0[TIES]), 2 | 3)
     }
 
+    /// Where it stands in its beam, if it is in one.
     pub fn beam(self) -> Option<Beam>
         ensures { result ≡ beam_of (number_of self.entry.0.now BEAM) }
     {
@@ -105,6 +109,7 @@ impl<'a> Note<'a> {
         }
     }
 
+    /// Its tuplet, if it is in one.
     pub fn tuplet(self) -> Option<Tuplet>
         ensures { result ≡
             tuplet_of (number_of self.entry.0.now ACTUAL) (number_of self.entry.0.now NORMAL) }
@@ -192,34 +197,28 @@ fn count_at(records: &[[i32; NOTE]], place: Place) -> usize
         .count()
 }
 
-/// Records of so many words, in order.
+/// The records of notes, in order.
+// Not one type of a const parameter with `Bars`: tried, and its `new` has to require that the
+// parameter isn't 0 and that a record of so many words fits memory.
 #[derive(Clone, Copy)]
-pub struct Records<'a, const N: usize>(pub &'a [[i32; N]]);
+pub struct Notes<'a>(pub &'a [[i32; NOTE]]);
 
-/// The records of notes.
-pub type Notes<'a> = Records<'a, NOTE>;
-
-/// The records of bars.
-pub type Bars<'a> = Records<'a, BAR>;
-
-impl<'a, const N: usize> Records<'a, N> {
+impl<'a> Notes<'a> {
     /// The first records of lent words, so many.
-    pub fn new(words: &'a [i32], count: usize) -> Records<'a, N>
-        requires { 0 < N }
-        ensures { result.0.now ≡ take count (records_in N words.entry.now) }
+    pub fn new(words: &'a [i32], count: usize) -> Notes<'a>
+        ensures { result.0.now ≡ take count (records_in NOTE words.entry.now) }
     {
-        let (records, _) = words.as_chunks::<N>();
-        Records(&records[..count.min(records.len())])
+        let (records, _) = words.as_chunks::<NOTE>();
+        Notes(&records[..count.min(records.len())])
     }
 
+    /// How many notes there are.
     pub fn len(self) -> usize
         ensures { result ≡ length self.entry.0.now }
     {
         self.0.len()
     }
-}
 
-impl<'a> Records<'a, NOTE> {
     /// The record of a note, by its number from 0.
     pub fn get(self, number: usize) -> Option<Note<'a>>
         ensures { TheOne (λ note. IsRecordAt self.entry.0.now number note.0.now) result }
@@ -238,7 +237,26 @@ impl<'a> Records<'a, NOTE> {
     }
 }
 
-impl<'a> Records<'a, BAR> {
+/// The records of bars, in order.
+#[derive(Clone, Copy)]
+pub struct Bars<'a>(pub &'a [[i32; BAR]]);
+
+impl<'a> Bars<'a> {
+    /// The first records of lent words, so many.
+    pub fn new(words: &'a [i32], count: usize) -> Bars<'a>
+        ensures { result.0.now ≡ take count (records_in BAR words.entry.now) }
+    {
+        let (records, _) = words.as_chunks::<BAR>();
+        Bars(&records[..count.min(records.len())])
+    }
+
+    /// How many bars there are.
+    pub fn len(self) -> usize
+        ensures { result ≡ length self.entry.0.now }
+    {
+        self.0.len()
+    }
+
     /// What the record of a bar says, by its number from 0.
     pub fn get(self, number: usize) -> Option<Bar>
         ensures { TheOne (IsBarAt self.entry.0.now number) result }

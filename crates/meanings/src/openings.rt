@@ -3,7 +3,7 @@ ghost use Rattle.std.specs.Prelude.{◌≤◌, length};
 
 use crate::shown::Shown;
 use marks::lookback::Mark;
-use marks::records::{Note, Notes, Records, Tuplet};
+use marks::records::{Note, Notes, Tuplet};
 use tokens::kinds::{Marking, Token};
 
 /// Whether it is a `;` with a count.
@@ -83,7 +83,7 @@ impl<'a, 'd> Shown<'a, 'd> {
     pub(crate) fn notes_between(&self, from: Mark<'d>, to: Mark<'d>) -> Notes<'a> {
         let end = self.records_before(to);
         let start = self.records_before(from).min(end);
-        Records(&self.notes.0[start..end])
+        Notes(&self.notes.0[start..end])
     }
 
     /// How many records between two marks are no graces.
