@@ -39,7 +39,8 @@ pub(crate) fn last_line(text: &[u8]) -> &[u8] {
     text.rsplit(|byte| *byte == b'\n').next().unwrap_or(text)
 }
 
-/// Where a text goes wrong: the offset, line and character of its first byte that is part of no well-formed character.
+/// Where a text goes wrong: the offset, line and character of its first byte that is part of no
+/// well-formed character.
 #[derive(Clone, Copy)]
 struct Malformed<'t>(&'t [u8]);
 

@@ -11,7 +11,8 @@ use std::io::Write;
 /// So many line ends are named.
 const NAMED: usize = 8;
 
-/// So many tens of places fit the longest text, and a few places more, above which the next ten's number is cut.
+/// So many tens of places fit the longest text, and a few places more, above which the next ten's
+/// number is cut.
 const TENS: usize = 6553;
 
 /// The ruler above a piece of the data: the first place, and each tenth by its number.
