@@ -84,7 +84,8 @@ fn place_of(argument: &[u8]) -> Option<Place> {
     }
 }
 
-/// Whether an argument looks like an option: two hyphens and three or more small letters, then nothing or `=`.
+/// Whether an argument looks like an option: two hyphens and three or more small letters, then
+/// nothing or `=`.
 fn looks_like_option(argument: &[u8]) -> bool {
     if !starts_with(argument, b"--") {
         return false;
@@ -204,7 +205,8 @@ pub(crate) fn options_given(rt: &impl Env) -> Options {
     options
 }
 
-/// An argument, put into the buffer: its size, 0 for one that is longer than the buffer, none behind the last.
+/// An argument, put into the buffer: its size, 0 for one that is longer than the buffer, none
+/// behind the last.
 // No error for a longer one: it is no option and no name, as an empty one isn't.
 pub(crate) fn argument(rt: &impl Env, number: usize, buffer: &mut [u8]) -> Option<usize>
     ensures { IfSome result (λ size. size ≤ length buffer.new) }

@@ -11,7 +11,7 @@ mod arguments; // arguments.rt: what the program is asked for
 mod texts; // texts.rt: the texts of an input
 
 use arguments::{Layer, Options, argument, options_given};
-use marks::findings::{Finding, read_all};
+use marks::findings::read_all;
 use marks::lookback::Marks;
 use marks::records::{Bars, Notes};
 use meanings::refusals::show_refusal;
@@ -38,14 +38,16 @@ use whys::why::{KeyField, Whys};
 /// The input is shorter than this.
 const INPUT: usize = 131072;
 
-/// Lent for a reading, which has no heap: 4,000 notes, as many in the figure, 4,000 bars, 1,024 diagnostics.
+/// Lent for a reading, which has no heap: 4,000 notes, as many in the figure, 4,000 bars, 1,024
+/// diagnostics.
 const NOTE_WORDS: usize = 4000 * NOTE;
 
 const BAR_WORDS: usize = 4000 * BAR;
 
 // ---- a reading
 
-/// What the fields of a text set: its data, where it has any, the key, and which attributes they leave unset.
+/// What the fields of a text set: its data, where it has any, the key, and which attributes they
+/// leave unset.
 #[derive(Clone, Copy)]
 struct Settings<'t> {
     data: Option<Part<'t>>,
@@ -74,6 +76,7 @@ fn settings_of<'t>(text: &'t [u8], diagnostics: &mut [Diagnostic]) -> Settings<'
 // ---- a text
 
 /// Whether the data of a text was looked at.
+// By the numbers, which are in the order of the checks: `Refusal` has no order of its own.
 fn is_looked_at(refusal: Option<Stop>) -> bool {
     match refusal {
         Some(stop) => Refusal::NoData.number() < stop.refusal.number(),
@@ -81,49 +84,35 @@ fn is_looked_at(refusal: Option<Stop>) -> bool {
     }
 }
 
-/// The layers that are asked for; of a refused text the first, and its marks, if its data was looked at.
-// Called once: a struct of the parameters would be made there and taken apart here.
+/// The layers that are asked for; of a refused text the first, and its marks, if its data was
+/// looked at.
 fn show_layers<'a, 'd, W: Write>(
     out: &mut W,
     alloc: Global,
-    text: &'a [u8],
-    settings: Settings<'a>,
-    marks: &'a Marks<'d>,
-    notes: Notes<'a>,
+    shown: Shown<'a, 'd>,
     bars: Bars<'a>,
-    findings: &'a [Finding],
-    refusal: Option<Stop>,
+    settings: Settings<'a>,
     options: Options,
-) -> io::Result<()>
-    requires { length text.now ≤ text_limit }
-{
-    let shown = Shown {
-        text,
-        data: settings.data,
-        marks,
-        notes,
-        findings,
-        refusal,
-    };
-    if options.has(Layer::Line) || refusal.is_some() {
+) -> io::Result<()> {
+    if options.has(Layer::Line) || shown.refusal.is_some() {
         shown.show_typed(out)?;
     }
-    if options.has(Layer::Marks) && is_looked_at(refusal) {
+    if options.has(Layer::Marks) && is_looked_at(shown.refusal) {
         shown.show_marks(out)?;
     }
-    if refusal.is_some() {
+    if shown.refusal.is_some() {
         return Ok(());
     }
     if options.has(Layer::Notes) {
-        show_notes(out, alloc, notes, marks)?;
+        show_notes(out, alloc, shown.notes, shown.marks)?;
     }
     if options.has(Layer::Bars) {
-        show_bars(out, bars, notes, marks, settings.unset)?;
+        show_bars(out, bars, shown.notes, shown.marks, settings.unset)?;
     }
     if options.has(Layer::Why) {
         let whys = Whys {
-            marks,
-            notes,
+            marks: shown.marks,
+            notes: shown.notes,
             key: settings.key,
         };
         whys.show(out, options.letter)?;
@@ -185,18 +174,15 @@ fn show_one<W: Write>(out: &mut W, alloc: Global, text: &[u8], options: Options)
     let findings = read_all(alloc, stored)?;
     let data = settings.data.unwrap_or(Part::new(b""));
     let marks = Marks::new(alloc, data, notes)?;
-    show_layers(
-        out,
-        alloc,
+    let shown = Shown {
         text,
-        settings,
-        &marks,
+        data: settings.data,
+        marks: &marks,
         notes,
-        bars,
-        findings.as_slice(),
-        outcome.err(),
-        options,
-    )?;
+        findings: findings.as_slice(),
+        refusal: outcome.err(),
+    };
+    show_layers(out, alloc, shown, bars, settings, options)?;
     show_outcome(out, outcome)
 }
 

@@ -4,7 +4,8 @@ ghost use Rattle.std.specs.Prelude.{◌<◌, ◌^◌, length};
 use scan::classes::is_text;
 use scan::lines::{FieldKey, Line, Lines, TextLine};
 
-/// A line or a text without the line end behind it: a carriage return and a line feed, or one of them.
+/// A line or a text without the line end behind it: a carriage return and a line feed, or one of
+/// them.
 pub(crate) fn without_line_end(line: &[u8]) -> &[u8] {
     let line = line.strip_suffix(b"\n").unwrap_or(line);
     line.strip_suffix(b"\r").unwrap_or(line)
@@ -26,11 +27,6 @@ fn is_keysig(line: TextLine<'_>) -> bool {
 pub(crate) fn keysig_line(text: &[u8]) -> Option<Line>
     requires { length text.now < 2 ^ 31 }
 {
-    let mut keysig = None;
-    for line in Lines::new(text) {
-        if is_keysig(line) {
-            keysig = Some(line.number);
-        }
-    }
-    keysig
+    let keysig = Lines::new(text).filter(|line| is_keysig(*line)).last()?;
+    Some(keysig.number)
 }

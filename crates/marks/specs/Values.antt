@@ -3,7 +3,6 @@ use Rattle.std.specs.Prelude.{Bool, Option, None, Some}
 use Rattle.tokens.specs.declared.attributes.ClefValue.{ClefValue}
 use Rattle.tokens.specs.declared.attributes.Key.{Key}
 use Rattle.tokens.specs.declared.kinds.Grace.{Grace}
-use Rattle.tokens.specs.declared.kinds.Marking.{Marking}
 use Rattle.tokens.specs.declared.kinds.Token.{Token}
 use Rattle.tokens.specs.declared.kinds.Token.TheVariants as t
 use Rattle.tokens.specs.declared.rhythm.Accidental.{Accidental}
@@ -45,7 +44,3 @@ grace_of token = None
 abbrev pub grace_group_of : Token → Option Bool
 grace_group_of (t.GraceGroup begins) = Some begins
 grace_group_of token = None
-
-abbrev pub marking_of : Token → Option Marking
-marking_of (t.Marking marking) = Some marking
-marking_of token = None

@@ -5,7 +5,7 @@ ghost use Rattle.rules.specs.Tokens.{items_of, token_of};
 ghost use Rattle.scan.specs.Parts.{part_of};
 ghost use Rattle.tokens.specs.Kinds.{token_in};
 ghost use Rattle.marks.specs.Kinds.{is_letter, is_octave, is_sign, is_chord, is_whole_bars, is_barline, is_pattern, is_clef, is_key, is_grace, is_grace_group, is_rest, is_figure_mark, opens_beam, closes_beam, opens_group, closes_group};
-ghost use Rattle.marks.specs.Values.{octave_of, accidental_of, step_of, pattern_of, clef_of, key_of, grace_of, grace_group_of, marking_of};
+ghost use Rattle.marks.specs.Values.{octave_of, accidental_of, step_of, pattern_of, clef_of, key_of, grace_of, grace_group_of};
 ghost use Rattle.marks.specs.Marks.{items_in, bytes_in, last_of, IsMark, AreMarks, took_length};
 ghost use Rattle.marks.specs.LookBack.{Answers, latest_of, count_of, first_of, stands_at};
 
@@ -31,7 +31,8 @@ pub struct Mark<'d> {
     pub text: &'d [u8],
     pub token: Token<'d>,
     pub stored: Option<usize>,
-    /// Whether it took a length of the pattern: a rest, or a letter that opened a note and no grace.
+    /// Whether it took a length of the pattern: a rest, or a letter that opened a note and no
+    /// grace.
     pub took_length: bool,
 }
 
@@ -77,6 +78,7 @@ impl<'d> Mark<'d> {
         }
     }
 
+    /// The accidental that it is.
     pub fn accidental(&self) -> Option<Accidental>
         ensures { result ≡ accidental_of self.now.token }
     {
@@ -96,6 +98,7 @@ impl<'d> Mark<'d> {
         }
     }
 
+    /// The pattern of lengths that it sets.
     pub fn pattern(&self) -> Option<Pattern<'d>>
         ensures { result ≡ pattern_of self.now.token }
     {
@@ -105,6 +108,7 @@ impl<'d> Mark<'d> {
         }
     }
 
+    /// The clef that it is, known or not.
     pub fn clef(&self) -> Option<ClefValue>
         ensures { result ≡ clef_of self.now.token }
     {
@@ -114,6 +118,7 @@ impl<'d> Mark<'d> {
         }
     }
 
+    /// The key that it is.
     pub fn key(&self) -> Option<Key>
         ensures { result ≡ key_of self.now.token }
     {
@@ -143,21 +148,14 @@ impl<'d> Mark<'d> {
         }
     }
 
-    pub fn marking(&self) -> Option<Marking>
-        ensures { result ≡ marking_of self.now.token }
-    {
-        match self.token {
-            Token::Marking(marking) => Some(marking),
-            _ => None,
-        }
-    }
-
+    /// The letter of a step.
     pub fn is_letter(&self) -> bool
         ensures { result ≡ is_letter (token_in self.now.token) }
     {
         matches!(self.token, Token::Letter(_))
     }
 
+    /// An octave that is in range.
     pub fn is_octave(&self) -> bool
         ensures { result ≡ is_octave (token_in self.now.token) }
     {
@@ -171,6 +169,7 @@ impl<'d> Mark<'d> {
         matches!(self.token, Token::Accidental(_))
     }
 
+    /// `^`.
     pub fn is_chord(&self) -> bool
         ensures { result ≡ is_chord (token_in self.now.token) }
     {
@@ -191,36 +190,42 @@ impl<'d> Mark<'d> {
         matches!(self.token, Token::Barline(_)) || self.is_whole_bars()
     }
 
+    /// A pattern of lengths.
     pub fn is_pattern(&self) -> bool
         ensures { result ≡ is_pattern (token_in self.now.token) }
     {
         matches!(self.token, Token::Duration(_))
     }
 
+    /// A clef, known or not.
     pub fn is_clef(&self) -> bool
         ensures { result ≡ is_clef (token_in self.now.token) }
     {
         matches!(self.token, Token::Clef(_))
     }
 
+    /// A key.
     pub fn is_key(&self) -> bool
         ensures { result ≡ is_key (token_in self.now.token) }
     {
         matches!(self.token, Token::Key(_))
     }
 
+    /// `g` or `q`.
     pub fn is_grace(&self) -> bool
         ensures { result ≡ is_grace (token_in self.now.token) }
     {
         matches!(self.token, Token::Grace(_))
     }
 
+    /// `qq` or `r`.
     pub fn is_grace_group(&self) -> bool
         ensures { result ≡ is_grace_group (token_in self.now.token) }
     {
         matches!(self.token, Token::GraceGroup(_))
     }
 
+    /// `-`.
     pub fn is_rest(&self) -> bool
         ensures { result ≡ is_rest (token_in self.now.token) }
     {
@@ -234,24 +239,28 @@ impl<'d> Mark<'d> {
         matches!(self.token, Token::Figure(Figure::Mark))
     }
 
+    /// `{`.
     pub fn opens_beam(&self) -> bool
         ensures { result ≡ opens_beam (token_in self.now.token) }
     {
         matches!(self.token, Token::Marking(Marking::BeamOpen))
     }
 
+    /// `}`.
     pub fn closes_beam(&self) -> bool
         ensures { result ≡ closes_beam (token_in self.now.token) }
     {
         matches!(self.token, Token::Marking(Marking::BeamClose))
     }
 
+    /// `(`.
     pub fn opens_group(&self) -> bool
         ensures { result ≡ opens_group (token_in self.now.token) }
     {
         matches!(self.token, Token::Marking(Marking::GroupOpen))
     }
 
+    /// `)`.
     pub fn closes_group(&self) -> bool
         ensures { result ≡ closes_group (token_in self.now.token) }
     {
@@ -311,6 +320,7 @@ fn first<'d, S: Fn(&Mark<'d>) -> bool>(marks: &[Mark<'d>], sought: S) -> Option<
     requires { S.IsAlwaysCallable sought }
     ensures { (p : _) → Answers S.Fn sought p → result ≡ first_of p marks.now }
 {
+    // A loop: tried as `find`, which asks of the caller that every closure of the type may be called.
     for mark in marks {
         if sought(mark) {
             return Some(*mark);
@@ -326,7 +336,8 @@ pub struct Marks<'d> {
 }
 
 impl<'d> Marks<'d> {
-    /// The tokens of the data, each with the last of the records that has its place; both stand in order.
+    /// The tokens of the data, each with the last of the records that has its place; both stand in
+    /// order.
     pub fn new(alloc: Global, data: Part<'d>, notes: Notes<'_>) -> Result<Marks<'d>, AllocError>
         ensures tokens { IfOk result (λ marks.
             items_in marks.list.items ≡ items_of (part_of «data».entry)) }
@@ -406,6 +417,8 @@ impl<'d> Marks<'d> {
             result ≡ count_of p q (take end self.now.list.items) }
     {
         let mut count = 0;
+        // A loop: tried as `take_while`, `filter` and `count`, where a closure that calls `stop`
+        // has to have a clause of its own.
         for mark in self.list[..end.min(self.list.len())].iter().rev() {
             if stop(mark) {
                 break;

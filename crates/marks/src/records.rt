@@ -50,6 +50,7 @@ impl<'a> Note<'a> {
         Place(natural(self.0[PLACE]))
     }
 
+    /// Its kind; a word that is no kind's number stands for a whole-bar rest.
     #[tactic(auto, using(crate::proofs::RecordLaws::kind_read))]
     pub fn kind(self) -> NoteKind
         ensures { result ≡ kind_of (word_of self.entry.0.now KIND) }
@@ -82,18 +83,21 @@ impl<'a> Note<'a> {
         })
     }
 
+    /// Whether a tie starts at it.
     pub fn tie_starts(self) -> bool
         ensures { result ≡ tie_starts (number_of self.entry.0.now TIES) }
     {
         matches!(natural(self.0[TIES]), 1 | 3)
     }
 
+    /// Whether a tie ends at it.
     pub fn tie_ends(self) -> bool
         ensures { result ≡ tie_ends (number_of self.entry.0.now TIES) }
     {
         matches!(natural(self.0[TIES]), 2 | 3)
     }
 
+    /// Where it stands in its beam, if it is in one.
     pub fn beam(self) -> Option<Beam>
         ensures { result ≡ beam_of (number_of self.entry.0.now BEAM) }
     {
@@ -105,6 +109,7 @@ impl<'a> Note<'a> {
         }
     }
 
+    /// Its tuplet, if it is in one.
     pub fn tuplet(self) -> Option<Tuplet>
         ensures { result ≡
             tuplet_of (number_of self.entry.0.now ACTUAL) (number_of self.entry.0.now NORMAL) }
@@ -193,6 +198,8 @@ fn count_at(records: &[[i32; NOTE]], place: Place) -> usize
 }
 
 /// The records of notes, in order.
+// Not one type of a const parameter with `Bars`: tried, and its `new` has to require that the
+// parameter isn't 0 and that a record of so many words fits memory.
 #[derive(Clone, Copy)]
 pub struct Notes<'a>(pub &'a [[i32; NOTE]]);
 
@@ -205,6 +212,7 @@ impl<'a> Notes<'a> {
         Notes(&records[..count.min(records.len())])
     }
 
+    /// How many notes there are.
     pub fn len(self) -> usize
         ensures { result ≡ length self.entry.0.now }
     {
@@ -242,6 +250,7 @@ impl<'a> Bars<'a> {
         Bars(&records[..count.min(records.len())])
     }
 
+    /// How many bars there are.
     pub fn len(self) -> usize
         ensures { result ≡ length self.entry.0.now }
     {

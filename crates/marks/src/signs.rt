@@ -1,4 +1,5 @@
-// Marks in words that the records have no part in: clefs, keys, meters, octaves, patterns, counts and barlines.
+// Marks in words that the records have no part in: clefs, keys, meters, octaves, patterns, counts
+// and barlines.
 use rows::terms::{Counted, Sign, Term};
 use std::fmt;
 use tokens::attributes::{ClefValue, Key, Meter};

@@ -102,6 +102,7 @@ impl<'d> Fate<'d> {
         }
     }
 
+    /// `}` closes a beam, unless another is opened before.
     pub fn of_beam(marks: &Marks<'d>, open: Mark<'d>) -> Fate<'d>
         ensures { result ≡ beam_fate marks.now.list.items «open».entry.number }
     {
@@ -110,6 +111,7 @@ impl<'d> Fate<'d> {
         Fate::of_opening(close, other, '}')
     }
 
+    /// `)` closes a group, unless another is opened before.
     pub fn of_group(marks: &Marks<'d>, open: Mark<'d>) -> Fate<'d>
         ensures { result ≡ group_fate marks.now.list.items «open».entry.number }
     {

@@ -17,7 +17,8 @@ use tokens::cut::Place;
 use tokens::kinds::{Figure, Grace, Marking, Token};
 use tokens::rhythm::{Edge, Step};
 
-/// What a mark is and what became of it; the records and the findings tell that where `told` says so.
+/// What a mark is and what became of it; the records and the findings tell that where `told` says
+/// so.
 #[derive(Clone, Copy)]
 struct Meaning<'a, 'd> {
     shown: Shown<'a, 'd>,
@@ -64,7 +65,8 @@ impl<'a, 'd> Meaning<'a, 'd> {
 
     // ---- groups, beams, figures
 
-    /// What ends here; the mark that opened it, where something is made of it: it was opened in this bar.
+    /// What ends here; the mark that opened it, where something is made of it: it was opened in
+    /// this bar.
     fn say_end<W: fmt::Write>(
         &self,
         f: &mut fmt::Formatter<W>,

@@ -22,7 +22,8 @@ fn count_shown(piece: &[u8]) -> usize
     Characters::new(piece).count()
 }
 
-/// A piece of a text: how many of the text's characters stand before it and up to its end, and its bytes.
+/// A piece of a text: how many of the text's characters stand before it and up to its end, and its
+/// bytes.
 #[derive(Clone, Copy)]
 pub(crate) struct Piece<'t> {
     pub before: usize,

@@ -34,7 +34,13 @@ pub(crate) fn place_of(stop: Stop) -> Option<Place> {
     }
 }
 
-/// Where a text goes wrong: the offset, line and character of its first byte that is part of no well-formed character.
+/// What stands behind the last line end of a text, all of it where it has none.
+pub(crate) fn last_line(text: &[u8]) -> &[u8] {
+    text.rsplit(|byte| *byte == b'\n').next().unwrap_or(text)
+}
+
+/// Where a text goes wrong: the offset, line and character of its first byte that is part of no
+/// well-formed character.
 #[derive(Clone, Copy)]
 struct Malformed<'t>(&'t [u8]);
 
@@ -46,10 +52,7 @@ impl<'t> fmt::Display for Malformed<'t> {
         let offset = error.valid_up_to();
         let formed = self.0.get(..offset).unwrap_or(self.0);
         let line = 1 + formed.iter().filter(|byte| **byte == b'\n').count();
-        let beginning = formed
-            .rsplit(|byte| *byte == b'\n')
-            .next()
-            .unwrap_or(formed);
+        let beginning = last_line(formed);
         let count = u32::try_from(count_characters(beginning)).unwrap_or(u32::MAX);
         let characters = Counted(count, "character");
         write!(

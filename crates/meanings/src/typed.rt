@@ -1,6 +1,6 @@
 // The first layer: the typed line, with a ruler of places, and the remarks under it.
 use crate::pieces::{Piece, Pieces};
-use crate::refusals::{place_of, show_refusal};
+use crate::refusals::{last_line, place_of, show_refusal};
 use crate::shown::{MARGIN, Shown};
 use rows::headings::show_heading;
 use rows::text::Text;
@@ -11,7 +11,8 @@ use std::io::Write;
 /// So many line ends are named.
 const NAMED: usize = 8;
 
-/// So many tens of places fit the longest text, and a few places more, above which the next ten's number is cut.
+/// So many tens of places fit the longest text, and a few places more, above which the next ten's
+/// number is cut.
 const TENS: usize = 6553;
 
 /// The ruler above a piece of the data: the first place, and each tenth by its number.
@@ -33,11 +34,7 @@ fn show_ruler<W: Write>(out: &mut W, piece: Piece<'_>) -> io::Result<()> {
 
 /// What the line of an offset has before it.
 fn beginning_of_line(text: &[u8], offset: Offset) -> &[u8] {
-    let before = text.get(..offset.0 as usize).unwrap_or(text);
-    before
-        .rsplit(|byte| *byte == b'\n')
-        .next()
-        .unwrap_or(before)
+    last_line(text.get(..offset.0 as usize).unwrap_or(text))
 }
 
 /// A line in pieces, the first with its number.
@@ -96,29 +93,23 @@ impl<'a, 'd> Shown<'a, 'd> {
             .any(|at| at.0 as usize == place)
     }
 
-    /// The last place of a piece that has a caret; where none has one, that before the piece.
-    fn last_remarked(&self, piece: Piece<'_>) -> usize {
-        let mut last = piece.before;
-        // A place is no item of a list.
-        for before in piece.before..piece.end {
-            if self.is_remarked(before + 1) {
-                last = before + 1;
-            }
-        }
-        last
+    /// The last place of a piece that has a caret, from 0, if one has.
+    fn last_remarked(&self, piece: Piece<'_>) -> Option<usize> {
+        (piece.before..piece.end)
+            .rev()
+            .find(|before| self.is_remarked(before.saturating_add(1)))
     }
 
     /// A row of carets under a piece of the data, where something is remarked there.
     fn show_carets<W: Write>(&self, out: &mut W, piece: Piece<'_>) -> io::Result<()> {
-        let last = self.last_remarked(piece);
-        if last == piece.before {
+        let Some(last) = self.last_remarked(piece) else {
             return Ok(());
-        }
+        };
         let margin = "";
         write!(out, "{margin:MARGIN$}")?;
         // A place is no item of a list.
-        for before in piece.before..last {
-            out.write_all(if self.is_remarked(before + 1) {
+        for before in piece.before..=last {
+            out.write_all(if self.is_remarked(before.saturating_add(1)) {
                 b"^"
             } else {
                 b" "

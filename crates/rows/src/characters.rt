@@ -1,4 +1,5 @@
-// Characters of a text as they are shown: a byte that is part of no well-formed character stands for one.
+// Characters of a text as they are shown: a byte that is part of no well-formed character stands
+// for one.
 ghost use Rattle.std.specs.Prelude.{◌≡◌, ◌<◌, ◌≤◌, length, take};
 ghost use Rattle.rows.specs.Shown.{formed_in, shown_size, beginning_size};
 
@@ -38,6 +39,7 @@ pub struct Characters<'t> {
 }
 
 impl<'t> Characters<'t> {
+    /// The characters of this text.
     pub fn new(text: &'t [u8]) -> Characters<'t>
         ensures { result.rest.now ≡ text.entry.now }
     {
@@ -69,7 +71,7 @@ pub fn beginning(text: &[u8], most: usize) -> &[u8]
     ensures { result.now ≡ take (beginning_size most text.now) text.entry.now }
 {
     let mut rest = text;
-    // So many turns: no list has the characters.
+    // By what is left: of the items of `Characters` the sizes would have to be added up.
     for _ in 0..most {
         if rest.is_empty() {
             break;

@@ -14,7 +14,8 @@ fn char_of(character: &[u8]) -> Option<char> {
     }
 }
 
-/// What is shown for a character: a space for a blank, `?` for a control character or a byte that is part of none.
+/// What is shown for a character: a space for a blank, `?` for a control character or a byte that
+/// is part of none.
 fn shown(character: &[u8]) -> char {
     match char_of(character) {
         Some(c) if c.is_whitespace() => ' ',
@@ -37,7 +38,8 @@ impl<'t> fmt::Display for Text<'t> {
     }
 }
 
-/// A part of a text, by its first 32 characters and `...` where it is longer. A width counts its characters.
+/// A part of a text, by its first 32 characters and `...` where it is longer. A width counts its
+/// characters.
 #[derive(Clone, Copy)]
 pub struct Excerpt<'t>(pub &'t [u8]);
 

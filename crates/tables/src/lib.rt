@@ -1,4 +1,5 @@
-// The notes and the bars of a reading as tables: the third and the fourth layer of the program `layers`.
+// The notes and the bars of a reading as tables: the third and the fourth layer of the program
+// `layers`.
 #![tactic(auto)]
 
 pub mod bars; // bars.rt: the fourth layer

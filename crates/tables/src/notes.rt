@@ -1,4 +1,5 @@
-// The third layer: the notes, a row for each record; whole-bar rests that follow each other alike share one.
+// The third layer: the notes, a row for each record; whole-bar rests that follow each other alike
+// share one.
 use crate::table::{Table, show_rows};
 use marks::lookback::Marks;
 use marks::records::{Beam, Note, NoteMark, Notes};
@@ -39,7 +40,7 @@ struct Pitches<'a>(Note<'a>);
 impl<'a> fmt::Display for Pitches<'a> {
     fn fmt<W: fmt::Write>(&self, f: &mut fmt::Formatter<W>) -> fmt::Result {
         let mut space = "";
-        // By number: a pitch is words of the record, and is read by its number.
+        // By number: tried over `filter_map`, and the proof that `space` is text didn't close.
         for which in 0..self.0.pitch_count() {
             if let Some(pitch) = self.0.pitch(which) {
                 let pitch = Term(pitch);

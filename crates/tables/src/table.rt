@@ -26,7 +26,8 @@ fn end_of_alike<T: Table>(table: &T, number: usize, from: usize, count: usize) -
         .count()
 }
 
-/// A row for each record; two or more behind one that is like them share a row. Shown numbers count from 1.
+/// A row for each record; two or more behind one that is like them share a row. Shown numbers count
+/// from 1.
 pub(crate) fn show_rows<T: Table, W: Write>(out: &mut W, table: &T, alike: &str) -> io::Result<()> {
     let count = table.len();
     let mut shown = 0;

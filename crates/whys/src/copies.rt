@@ -9,7 +9,8 @@ use tokens::cut::Place;
 // So many copies are named.
 const NAMED: usize = 16;
 
-/// The pitches of a copy: each is that of the letter that stored it, and one behind the copy's place joined it.
+/// The pitches of a copy: each is that of the letter that stored it, and one behind the copy's
+/// place joined it.
 #[derive(Clone, Copy)]
 struct Copied<'a> {
     note: Note<'a>,
@@ -23,7 +24,7 @@ impl<'a> fmt::Display for Copied<'a> {
             return f.write_str("a rest");
         }
         let mut comma = "";
-        // By number: a pitch is words of the record, and is read by its number.
+        // By number: tried over `filter_map`, and the proof that `comma` is text didn't close.
         for which in 0..count {
             if let Some(pitch) = self.note.pitch(which) {
                 let by = if self.place.0 < pitch.place.0 {

@@ -173,7 +173,8 @@ impl<'m, 'd> Letter<'m, 'd> {
         }
     }
 
-    /// The last key, where it was not taken, no sign comes before it, and it would alter the letter otherwise.
+    /// The last key, where it was not taken, no sign comes before it, and it would alter the letter
+    /// otherwise.
     fn untaken_key(self) -> Option<Mark<'d>> {
         let key = self.before.key()?;
         let is_passed = match self.cause {

@@ -1,4 +1,5 @@
-// Why each letter, rest and copy is as it is: the marks that the look-back stops at, for the program `layers`.
+// Why each letter, rest and copy is as it is: the marks that the look-back stops at, for the
+// program `layers`.
 #![tactic(auto)]
 
 mod before; // before.rt: what holds behind the marks before a letter or rest
