@@ -79,7 +79,7 @@ fn settings_of<'t>(text: &'t [u8], diagnostics: &mut [Diagnostic]) -> Settings<'
 // By the numbers, which are in the order of the checks: `Refusal` has no order of its own.
 fn is_looked_at(refusal: Option<Stop>) -> bool {
     match refusal {
-        Some(stop) => Refusal::NoData.number() < stop.refusal.number(),
+        Some(stop) => Refusal::NoData < stop.refusal,
         None => true,
     }
 }
@@ -136,7 +136,7 @@ fn show_outcome<W: Write>(out: &mut W, outcome: Result<Counts, Stop>) -> io::Res
             writeln!(out, "accepted: {notes}, {bars}, {diagnostics}{more}")
         }
         Err(stop) => {
-            let number = stop.refusal.number();
+            let number = u32::from(stop.refusal);
             writeln!(out, "refused {number}")
         }
     }

@@ -135,7 +135,7 @@ impl<'l> Answer<'l> {
     /// A refusal, by its number.
     pub(crate) fn take_refusal(&mut self, refusal: Refusal) -> Result<(), Differs> {
         self.take_byte(b'R')?;
-        self.take_number(refusal.number())
+        self.take_number(refusal.into())
     }
 
     /// The answer ends.
