@@ -5,21 +5,21 @@ ghost use Rattle.cards.specs.Judged.{natural, raised};
 
 use super::error::CardError;
 
-// A word as a number; one below 0 is above every range.
+/// A word as a number; one below 0 is above every range.
 pub fn natural(word: i32) -> u32
     ensures { result ≡ natural word }
 {
-    if word < 0 { u32::MAX } else { word as u32 }
+    u32::try_from(word).unwrap_or(u32::MAX)
 }
 
-// The bit of a field, 0 where the field is 0.
+/// The bit of a field, 0 where the field is 0.
 pub fn bit(field: u8) -> u8
     ensures { result ≡ cond (stands field) 1 0 }
 {
     u8::from(field != 0)
 }
 
-// A number from 0 to `most`.
+/// A number from 0 to `most`.
 pub fn up_to(number: i32, most: u8) -> Result<u8, CardError>
     ensures { MatchResult result (λ n. (pos n ≡ number) × (n ≤ most))
         (λ _. leb (natural number) most ≡ false) }
@@ -30,7 +30,7 @@ pub fn up_to(number: i32, most: u8) -> Result<u8, CardError>
     }
 }
 
-// A number plus `k`, if that is from 0 to `most`.
+/// A number plus `k`, if that is from 0 to `most`.
 // By tests: `checked_add` and `u8::try_from` would be two more refusals for the same.
 pub fn raised(number: i32, k: u8, most: u8) -> Result<u8, CardError>
     requires { k ≤ most }

@@ -1,7 +1,5 @@
-use Rattle.std.proofs.Common.{sym, ap, ◌∙◌, ◌≡◌, ◌*◌, ◌+◌, rules, w32, pos, get_or}
-use mathlib.Core.Bool.{true, false≢true}
-use mir.Val.{SFits}
-use Rattle.std.proofs.lemmas.Int.{to_z-of_z}
+use Rattle.std.proofs.Common.{sym, ap, ◌∙◌, ◌≡◌, ◌*◌, ◌+◌, rules}
+use mathlib.Core.Bool.{true, false, false≢true}
 use Rattle.std.proofs.lemmas.Result.{MatchResult-from_err}
 use Rattle.cards.specs.Words.{normal_word}
 use Rattle.cards.specs.Judged.{number_at, note_of}
@@ -30,17 +28,9 @@ pub returns-in_err-note : goal.returns-in_err-note
 returns-in_err-note g c =
     let w = c.args.words.now in
     let form = g.W.PlaceWidth.form in
-    let f0 : SFits w32 (get_or w 0 (pos 0)) = search rules in
-    let f1 : SFits w32 (get_or w 1 (pos 0)) = search rules in
-    let f2 : SFits w32 (get_or w 2 (pos 0)) = search rules in
-    let f3 : SFits w32 (get_or w 3 (pos 0)) = search rules in
-    let f4 : SFits w32 (get_or w 4 (pos 0)) = search rules in
-    let f5 : SFits w32 (get_or w 5 (pos 0)) = search rules in
-    let f6 : SFits w32 (get_or w 6 (pos 0)) = search rules in
-    let f8 : SFits w32 (get_or w 8 (pos 0)) = search rules in
-    let f9 : SFits w32 (get_or w 9 (pos 0)) = search rules in
-    let place = simp to_z-of_z at c.natural.ensures in
-    let e = simp to_z-of_z at c.in_err-note.ensures in
+    let place : c.natural.result ≡ number_at w 0 = search (rules, c.natural.ensures) in
+    let k = numbered (numbers_in c.natural.result w) (card_pitches c.in_ok-pitches.pitches) in
+    let e : such_note form k ≡ false = search (rules, c.in_err-note.ensures) in
     let like = note_like form c.args.bar w c.natural.result c.in_ok-pitches.pitches place c.in_ok-pitches.ensures in
     MatchResult-from_err _ _ _ c.from_residual-in_err-note.ensures.0 (λ _. words_not form c.args.bar w (λ f. false≢true (sym e ∙ ap (such_note form) like ∙ f.such)))
 
@@ -49,19 +39,10 @@ unfolding note_of
 returns-then-natural-from g c =
     let w = c.args.words.now in
     let form = g.W.PlaceWidth.form in
-    let f0 : SFits w32 (get_or w 0 (pos 0)) = search rules in
-    let f1 : SFits w32 (get_or w 1 (pos 0)) = search rules in
-    let f2 : SFits w32 (get_or w 2 (pos 0)) = search rules in
-    let f3 : SFits w32 (get_or w 3 (pos 0)) = search rules in
-    let f4 : SFits w32 (get_or w 4 (pos 0)) = search rules in
-    let f5 : SFits w32 (get_or w 5 (pos 0)) = search rules in
-    let f6 : SFits w32 (get_or w 6 (pos 0)) = search rules in
-    let f7 : SFits w32 (get_or w 7 (pos 0)) = search rules in
-    let f8 : SFits w32 (get_or w 8 (pos 0)) = search rules in
-    let f9 : SFits w32 (get_or w 9 (pos 0)) = search rules in
-    let place = simp to_z-of_z at c.natural.ensures in
-    let e = simp to_z-of_z at c.in_ok-note.ensures in
-    let e7 = simp to_z-of_z at c.natural-2.ensures in
+    let place : c.natural.result ≡ number_at w 0 = search (rules, c.natural.ensures) in
+    let k = numbered (numbers_in c.natural.result w) (card_pitches c.in_ok-pitches.pitches) in
+    let e : (card_note c.in_ok-note.note ≡ k) × (such_note form k ≡ true) = search (rules, c.in_ok-note.ensures) in
+    let e7 : c.natural-2.result ≡ number_at w 7 = search (rules, c.natural-2.ensures) in
     let like = note_like form c.args.bar w c.natural.result c.in_ok-pitches.pitches place c.in_ok-pitches.ensures in
     let is : card_note c.in_ok-note.note ≡ note_of w = e.0 ∙ like in
     let actual : c.in_ok-note.note.actual ≡ number_at w 6 = ap (λ (x : card.Note). x.actual) is in
@@ -70,8 +51,7 @@ returns-then-natural-from g c =
 pub returns-then-natural-bar : goal.returns-then-natural-bar
 returns-then-natural-bar g c =
     let w = c.args.words.now in
-    let f11 : SFits w32 (get_or w 11 (pos 0)) = search rules in
-    let e = simp to_z-of_z at c.natural-3.ensures in
+    let e : c.natural-3.result ≡ number_at w 11 = search (rules, c.natural-3.ensures) in
     words_not g.W.PlaceWidth.form c.args.bar w (λ f. c.if-natural-bar.true (e ∙ f.number))
 
 pub returns : goal.returns

@@ -1,22 +1,16 @@
-use Rattle.std.proofs.Common.{ap, sym, ◌∙◌, ◌≡◌, rules, w32}
-use mir.Val.{SFits}
-use Rattle.std.proofs.lemmas.Int.{to_z-of_z}
+use Rattle.std.proofs.Common.{ap, sym, ◌∙◌, ◌≡◌, rules}
+use mathlib.Core.Bool.{true}
 use Rattle.cards.specs.Judged.{natural}
 use Rattle.cards.specs.Card.{such_head}
 use Rattle.cards.specs.Taken.{head_in}
-use Rattle.cards.specs.Values.{key_value, card_head}
+use Rattle.cards.specs.Values.{key_value, card_head, head_numbered}
 use Rattle.cards.proofs.CardTaken.{head_of_fields}
 use Rattle.cards.proofs.reading.CardReader.head.Goals as goal
 
 pub returns : goal.returns
 returns c =
-    let f1 : SFits w32 c.from.result = search rules in
-    let f2 : SFits w32 c.from-2.result = search rules in
-    let f3 : SFits w32 c.from-3.result = search rules in
-    let f4 : SFits w32 c.from-4.result = search rules in
-    let f5 : SFits w32 c.from-5.result = search rules in
-    let f6 : SFits w32 c.from-6.result = search rules in
-    let n = simp to_z-of_z at c.in_ok-head.ensures in
+    let k = head_numbered (record { clef = c.from.result; fifths = c.fifths_of.result; numerator = c.from-2.result; denominator = c.from-3.result; symbol = c.from-4.result; left = c.from-5.result; right = c.from-6.result }) in
+    let n : (card_head c.in_ok-head.head ≡ k) × (such_head k ≡ true) = search (rules, c.in_ok-head.ensures) in
     let is : head_in c.in_ok-clef.clef (key_value c.in_ok-key.key) c.in_ok-numerator.numerator c.in_ok-denominator.denominator c.in_ok-symbol.symbol c.in_ok-left.left c.in_ok-right.right ≡ card_head c.in_ok-head.head =
     sym (n.0 ∙ (λ i. record {
       clef = natural (c.from.ensures i);

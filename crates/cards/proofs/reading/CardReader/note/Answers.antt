@@ -1,10 +1,9 @@
-use Rattle.std.proofs.Common.{ap, sym, ◌∙◌, ◌≡◌, rules, w32}
-use mir.Val.{SFits}
-use Rattle.std.proofs.lemmas.Int.{to_z-of_z}
+use Rattle.std.proofs.Common.{ap, sym, ◌∙◌, ◌≡◌, rules}
+use mathlib.Core.Bool.{true}
 use Rattle.cards.specs.Judged.{natural}
 use Rattle.cards.specs.Card.{such_note}
 use Rattle.cards.specs.Taken.{note_in}
-use Rattle.cards.specs.Values.{card_pitches, card_note}
+use Rattle.cards.specs.Values.{card_pitches, card_note, numbered}
 use Rattle.cards.proofs.NoteTaken.{pitches_sound, note_of_fields}
 use Rattle.cards.proofs.reading.CardReader.note.Goals as goal
 
@@ -14,15 +13,8 @@ new-requires g c = (pitches_sound g.W.PlaceWidth.form _ _ _ c.in_ok-pitches.ensu
 pub returns : goal.returns
 returns g c =
     let form = g.W.PlaceWidth.form in
-    let f1 : SFits w32 c.from.result = search rules in
-    let f2 : SFits w32 c.from-2.result = search rules in
-    let f3 : SFits w32 c.from-3.result = search rules in
-    let f4 : SFits w32 c.from-4.result = search rules in
-    let f5 : SFits w32 c.from-5.result = search rules in
-    let f6 : SFits w32 c.from-6.result = search rules in
-    let f7 : SFits w32 c.from-7.result = search rules in
-    let f8 : SFits w32 c.from-8.result = search rules in
-    let n = simp to_z-of_z at c.in_ok-note.ensures in
+    let k = numbered (record { place = c.in_ok-place.place; kind = c.from.result; duration = c.from-2.result; dots = c.from-3.result; ties = c.from-4.result; beam = c.from-5.result; actual = c.from-6.result; mark_count = c.from-7.result; marks = c.from-8.result }) (card_pitches c.in_ok-pitches.pitches) in
+    let n : (card_note c.in_ok-note.note ≡ k) × (such_note form k ≡ true) = search (rules, c.in_ok-note.ensures) in
     let is : note_in c.in_ok-place.place c.in_ok-size.size c.in_ok-kind.kind c.in_ok-ties.ties c.in_ok-beam.beam c.in_ok-actual.actual c.in_ok-mark_count.mark_count c.in_ok-marks.marks (card_pitches c.in_ok-pitches.pitches) ≡ card_note c.in_ok-note.note =
     sym (n.0 ∙ (λ i. record {
       place = c.in_ok-place.place;

@@ -1,6 +1,4 @@
-use Rattle.std.proofs.Common.{rules, arith, ap, sym, ◌∙◌, ◌*◌, ◌++◌, length, get_or, pos, w32}
-use mir.Val.{SFits}
-use Rattle.std.proofs.lemmas.Int.{to_z-of_z}
+use Rattle.std.proofs.Common.{rules, arith, ap, sym, ◌∙◌, ◌≡◌, ◌*◌, ◌++◌, length}
 use Rattle.std.proofs.lemmas.Result.{MatchResult-from_err}
 use borrow.Author.Tests.{lt-ltb, le-ltb, le-leb, lt-leb}
 use Rattle.rules.specs.Limits.{note_size}
@@ -21,16 +19,14 @@ returns-in_err-head g c =
 pub returns-then-count-eq0 : goal.returns-then-count-eq0
 returns-then-count-eq0 g c =
     let a = c.args in
-    let f : SFits w32 (get_or a.words.now 1 (pos 0)) = search rules in
-    let e = simp to_z-of_z at c.natural-count.ensures in
+    let e : c.natural-count.result ≡ number_at a.words.now 1 = search (rules, c.natural-count.ensures) in
     let n = le-ltb 0 (number_at a.words.now 1) (omega (arith, e)) in
     record { same = same_none a.self.now; wrote = rw (first_is g.W.PlaceWidth.form a.number a.first a.notes.now a.words.now c.requires, c.in_ok-head.ensures.1, n) }
 
 pub returns-then-notes-size : goal.returns-then-notes-size
 returns-then-notes-size g c =
     let a = c.args in
-    let f : SFits w32 (get_or a.words.now 1 (pos 0)) = search rules in
-    let e = simp to_z-of_z at c.natural-count.ensures in
+    let e : c.natural-count.result ≡ number_at a.words.now 1 = search (rules, c.natural-count.ensures) in
     let n = lt-ltb 0 (number_at a.words.now 1) (omega (arith, e)) in
     let m = lt-leb (number_at a.words.now 1 * note_size) (length a.notes.now) (omega (arith, e)) in
     record { same = same_none a.self.now; wrote = rw (first_is g.W.PlaceWidth.form a.number a.first a.notes.now a.words.now c.requires, c.in_ok-head.ensures.1, n, m) }
@@ -39,8 +35,7 @@ pub returns-in_err-notes : goal.returns-in_err-notes
 returns-in_err-notes g c =
     let a = c.args in
     let form = g.W.PlaceWidth.form in
-    let f : SFits w32 (get_or a.words.now 1 (pos 0)) = search rules in
-    let e = simp to_z-of_z at c.natural-count.ensures in
+    let e : c.natural-count.result ≡ number_at a.words.now 1 = search (rules, c.natural-count.ensures) in
     let n = lt-ltb 0 (number_at a.words.now 1) (omega (arith, e)) in
     let m = le-leb (number_at a.words.now 1 * note_size) (length a.notes.now) (omega (arith, e)) in
     let r = c.in_err-notes.ensures in
@@ -52,8 +47,7 @@ pub returns : goal.returns
 returns g c =
     let a = c.args in
     let form = g.W.PlaceWidth.form in
-    let f : SFits w32 (get_or a.words.now 1 (pos 0)) = search rules in
-    let e = simp to_z-of_z at c.natural-count.ensures in
+    let e : c.natural-count.result ≡ number_at a.words.now 1 = search (rules, c.natural-count.ensures) in
     let n = lt-ltb 0 (number_at a.words.now 1) (omega (arith, e)) in
     let m = le-leb (number_at a.words.now 1 * note_size) (length a.notes.now) (omega (arith, e)) in
     let h = c.in_ok-head.ensures in
