@@ -1,5 +1,6 @@
-// Reads each line of standard input and prints its records, a row each; of a refused line the number and the place.
-// Its standard input is the thirteen lines of crates/rules/proofs/Lines.antt, in fourteen texts.
+// Reads each line of standard input and prints its records, a row each; of a refused line the
+// number and the place. Its standard input is the thirteen lines of crates/rules/proofs/Lines.antt,
+// in fourteen texts.
 #![tactic(auto)]
 
 ghost use Rattle.std.specs.Prelude.{OnOk};
@@ -14,7 +15,8 @@ use stores::diagnostic::{Diagnostic, MAX_DIAGNOSTICS};
 use stores::note::PITCH_COUNT;
 use view::refusal::Stop;
 
-// Lent for every line, since a reading has no heap: 16 notes, 16 bars, 16 notes of a figure, 1,024 diagnostics.
+// Lent for every line, since a reading has no heap: 16 notes, 16 bars, 16 notes of a figure, 1,024
+// diagnostics.
 const NOTES: usize = 16 * NOTE;
 
 const BARS: usize = 16 * BAR;
@@ -28,7 +30,8 @@ const INPUT: usize = 4096;
 
 // Words, a space before each.
 fn print_words<W: Write>(out: &mut W, words: &[i32]) -> io::Result<()>
-    ensures { OnOk result (Appends (W.contents out.old) (W.contents out.new) (words_row words.now)) }
+    ensures { OnOk result (Appends (W.contents out.old) (W.contents out.new)
+        (words_row words.now)) }
 {
     for word in words {
         write!(out, " {word}")?;
@@ -97,32 +100,18 @@ fn print_reading<W: Write>(
 
 // ---- lines
 
-// The four lists are parameters each, here and below, as `read` takes them.
-fn read_line<W: Write>(
-    out: &mut W,
-    line: &[u8],
-    notes: &mut [i32; NOTES],
-    bars: &mut [i32; BARS],
-    figure: &mut [i32; FIGURE],
-    diagnostics: &mut [Diagnostic; MAX_DIAGNOSTICS],
-) -> io::Result<()> {
-    out.write_all(line)?;
-    out.write_all(b"\n")?;
-    let reading = read(line, notes, bars, figure, diagnostics);
-    print_reading(out, reading, notes, bars, diagnostics)
-}
-
-fn read_lines<W: Write>(
-    out: &mut W,
-    input: &[u8],
-    notes: &mut [i32; NOTES],
-    bars: &mut [i32; BARS],
-    figure: &mut [i32; FIGURE],
-    diagnostics: &mut [Diagnostic; MAX_DIAGNOSTICS],
-) -> io::Result<()> {
+// Each line, and what came of it.
+fn read_lines<W: Write>(out: &mut W, input: &[u8]) -> io::Result<()> {
+    let mut notes = [0i32; NOTES];
+    let mut bars = [0i32; BARS];
+    let mut figure = [0i32; FIGURE];
+    let mut diagnostics = [Diagnostic::default(); MAX_DIAGNOSTICS];
     for line in input.split_inclusive(|byte| *byte == b'\n') {
         let text = line.strip_suffix(b"\n").unwrap_or(line);
-        read_line(out, text, notes, bars, figure, diagnostics)?;
+        out.write_all(text)?;
+        out.write_all(b"\n")?;
+        let reading = read(text, &mut notes, &mut bars, &mut figure, &mut diagnostics);
+        print_reading(out, reading, &notes, &bars, &diagnostics)?;
     }
     Ok(())
 }
@@ -131,16 +120,5 @@ fn main(rt: HostRuntime) -> io::Result<()> {
     let mut input = Vec::new(rt.alloc());
     rt.reader().take(INPUT as u64).read_to_end(&mut input)?;
     let mut out = io::writer(&rt);
-    let mut notes = [0i32; NOTES];
-    let mut bars = [0i32; BARS];
-    let mut figure = [0i32; FIGURE];
-    let mut diagnostics = [Diagnostic::default(); MAX_DIAGNOSTICS];
-    read_lines(
-        &mut out,
-        input.as_slice(),
-        &mut notes,
-        &mut bars,
-        &mut figure,
-        &mut diagnostics,
-    )
+    read_lines(&mut out, input.as_slice())
 }
