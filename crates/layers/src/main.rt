@@ -76,7 +76,7 @@ fn settings_of<'t>(text: &'t [u8], diagnostics: &mut [Diagnostic]) -> Settings<'
 // ---- a text
 
 /// Whether the data of a text was looked at.
-// By the numbers, which are in the order of the checks: `Refusal` has no order of its own.
+// Refusals are in the order of the checks.
 fn is_looked_at(refusal: Option<Stop>) -> bool {
     match refusal {
         Some(stop) => Refusal::NoData < stop.refusal,

@@ -130,7 +130,7 @@ impl<'d> State<'d> {
         State {
             attributes,
             voice: Voice {
-                octave: Octave { number: 4 },
+                octave: Octave::START,
                 accidental: None,
                 chord: false,
                 grace: None,

@@ -395,6 +395,7 @@ fn few_dots(rest: &[u8]) -> &[u8]
     ensures lengths { pattern_of result.now ≡ pattern_of rest.entry.now }
 {
     let mut few = rest;
+    // By what is left: std takes a suffix from a slice only once.
     while few.ends_with(b"....") {
         few = &few[..few.len() - 1];
     }

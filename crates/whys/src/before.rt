@@ -29,10 +29,9 @@ impl<'m, 'd> Before<'m, 'd> {
 
     /// The octave; at the start, 4.
     pub(crate) fn octave(self) -> Octave {
-        let start = Octave { number: 4 };
         match self.octave_mark() {
-            Some(mark) => mark.octave().unwrap_or(start),
-            None => start,
+            Some(mark) => mark.octave().unwrap_or(Octave::START),
+            None => Octave::START,
         }
     }
 
