@@ -4,7 +4,6 @@ use rows::terms::{Counted, Term};
 use scan::characters::count_characters;
 use std::io::Write;
 use std::{fmt, io};
-use tokens::cut::Place;
 use view::refusal::{Refusal, Stop};
 
 /// What a refusal means.
@@ -22,15 +21,6 @@ fn reason(refusal: Refusal) -> &'static str {
         Refusal::NoFigure => "a figure of more notes than this program keeps",
         Refusal::NoBar => "more bars than the 4,000 that this program keeps",
         Refusal::NoRecord => "there is no note and no rest",
-    }
-}
-
-/// The place in the data where a text is refused, if it has one.
-pub(crate) fn place_of(stop: Stop) -> Option<Place> {
-    if stop.place == Place(0) {
-        None
-    } else {
-        Some(stop.place)
     }
 }
 
@@ -61,10 +51,10 @@ impl<'t> fmt::Display for Malformed<'t> {
 
 /// The refusal of a text, in a row.
 pub fn show_refusal<W: Write>(out: &mut W, text: &[u8], stop: Stop) -> io::Result<()> {
-    let number = stop.refusal.number();
+    let number = u32::from(stop.refusal);
     let margin = "";
     write!(out, "{margin:MARGIN$}refused {number}")?;
-    if let Some(place) = place_of(stop) {
+    if let Some(place) = stop.place {
         let place = Term(place);
         write!(out, " at {place}")?;
     }

@@ -1,6 +1,6 @@
 // The first layer: the typed line, with a ruler of places, and the remarks under it.
 use crate::pieces::{Piece, Pieces};
-use crate::refusals::{place_of, show_refusal};
+use crate::refusals::show_refusal;
 use crate::shown::{MARGIN, Shown};
 use rows::headings::show_heading;
 use rows::text::Text;
@@ -85,10 +85,7 @@ impl<'a, 'd> Shown<'a, 'd> {
 
     /// Whether a caret stands under a place: something was found or refused there.
     fn is_remarked(&self, place: usize) -> bool {
-        let refused = match self.refusal {
-            Some(stop) => place_of(stop),
-            None => None,
-        };
+        let refused = self.refusal.and_then(|stop| stop.place);
         self.findings
             .iter()
             .filter_map(|finding| finding.place())
