@@ -28,6 +28,8 @@ impl Accidentals {
         }
     }
 
+    // A step and an octave, here and below: a struct of them would be made for one call.
+
     /// The alteration at a step and octave, if one is entered.
     pub fn get(&self, step: Step, octave: Octave) -> Option<i8>
         ensures { fifths_in result ≡ entry self.now.table (step_number step) octave.number }

@@ -117,6 +117,9 @@ impl<'t> Fields<'t> {
     }
 }
 
+// That the text isn't too long is asked, here and below: it is the caller's slice, checked at the
+// entry.
+
 /// Whether any line of the text is a field.
 #[tactic(auto, using(crate::proofs::FieldLaws::line_laws))]
 fn in_field_form(text: &[u8]) -> bool

@@ -16,6 +16,9 @@ use tokens::cut::Span;
 use view::refusal::Refusal;
 
 impl<'s, 't, 'n, 'b, 'l, 'd> Reader<'s, 't, 'n, 'b, 'l, 'd> {
+    // The figure's cells are lent beside the reader, as `read` is lent them: parameters, here and
+    // below.
+
     // The second `!`: the notes from the first on are the figure, unless it stands in a later bar.
     fn second_mark(
         &mut self,

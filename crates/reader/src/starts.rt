@@ -27,6 +27,7 @@ impl<'s, 't, 'n, 'b, 'l, 'd> Reader<'s, 't, 'n, 'b, 'l, 'd> {
         if !self.has_note() {
             return false;
         }
+        // By the word: `NoteKind::try_from` would bring a case for words that no record has.
         let kind = self.notes.number(self.notes.count - 1, KIND);
         kind != NoteKind::Rest as u32 && kind != NoteKind::WholeBarRest as u32
     }

@@ -33,6 +33,8 @@ pub fn count_characters(part: &[u8]) -> usize
     part.iter().filter(|byte| !is_continuation(**byte)).count()
 }
 
+// A first byte and the rest, here and below: a slice that isn't empty, without a `requires`.
+
 /// The size of the character that begins with a byte, and goes on in those behind it.
 #[tactic(auto, unfolding(rules::specs::Characters::character_size))]
 pub fn character_size(first: u8, rest: &[u8]) -> usize

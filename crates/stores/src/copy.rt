@@ -71,6 +71,8 @@ impl<'a> Records<'a, NOTE> {
         figure[..size].copy_from_slice(&self.cells[start..start + size]);
     }
 
+    // Parameters, here and below: the reader has each of them apart.
+
     /// The figure's records, appended as copies.
     pub fn repeat_figure(
         &mut self,

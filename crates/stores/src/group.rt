@@ -158,6 +158,8 @@ fn fermata(part: &mut [i32], count: usize) -> Result<(), NoRoom>
 }
 
 impl<'a> Records<'a, NOTE> {
+    // That `from` is not past the count is asked, here and below: who calls has it of the start.
+
     /// The non-grace records from one on.
     pub fn timed_from(&self, from: usize) -> Timed
         requires { from ≤ self.now.count }

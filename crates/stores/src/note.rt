@@ -60,6 +60,7 @@ pub enum NoteKind {
     WholeBarRest,
 }
 
+// An impl of its own, as those in tokens: what a macro or a derive writes has no `from_gives`.
 impl From<NoteKind> for i32 {
     ghost use Rattle.tokens.specs.Words.{WritesBy};
 

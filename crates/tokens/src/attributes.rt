@@ -141,6 +141,8 @@ impl Sign {
         }
     }
 
+    // Of an `Option` of a sign, here and below, so no methods of one.
+
     /// The nearest sign before the next byte.
     fn after(sign: Option<Sign>, byte: u8) -> Option<Sign>
         ensures { sign_in result ≡ sign_after (sign_in sign) byte }
