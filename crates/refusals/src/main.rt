@@ -8,14 +8,13 @@ mod table; // table.rt: the lines of the table
 use cells::{
     RUBBISH, are_bars_right, are_diagnostics_right, are_notes_right, filled, is_figure_right,
 };
-use pae::answers::Reading;
 use pae::pae_read;
 use std::alloc::Global;
 use std::io;
 use std::io::{Read, Write};
 use stores::cells::{BAR, NOTE};
 use stores::diagnostic::Diagnostic;
-use table::{Case, Lent};
+use table::{Case, Lent, Outcome};
 
 /// The table has at most so many bytes.
 const TABLE: usize = 65536;
@@ -33,7 +32,7 @@ const CELLS: usize = 2000;
 /// What came of a case, and whether every cell is as it must be.
 #[derive(Clone, Copy)]
 struct Told {
-    reading: Reading,
+    outcome: Outcome,
     is_right: bool,
 }
 
@@ -58,7 +57,13 @@ fn call(
         &mut list[..cells],
     );
     Told {
-        reading,
+        outcome: Outcome {
+            number: reading.number,
+            place: reading.place,
+            notes: reading.notes,
+            bars: reading.bars,
+            diagnostics: reading.diagnostics,
+        },
         is_right: are_notes_right(&notes[..], reading.notes, note_words)
             && are_bars_right(&bars[..], reading.bars, bar_words)
             && is_figure_right(&figure[..], figure_words)
@@ -83,15 +88,15 @@ fn print_row<W: Write>(out: &mut W, case: Case<'_>, told: Told) -> io::Result<()
     out.write_all(case.lent)?;
     out.write_all(b"|")?;
     out.write_all(case.text)?;
-    let Reading {
+    let Outcome {
         number,
         place,
         notes,
         bars,
         diagnostics,
-    } = told.reading;
+    } = told.outcome;
     let cells = if told.is_right { "right" } else { "WRONG" };
-    let end = if told.reading == case.expected() {
+    let end = if told.outcome == case.expected() {
         ""
     } else {
         ", NOT AS THE TABLE SAYS"
