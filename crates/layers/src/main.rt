@@ -76,7 +76,7 @@ fn settings_of<'t>(text: &'t [u8], diagnostics: &mut [Diagnostic]) -> Settings<'
 /// Whether the data of a text was looked at.
 fn is_looked_at(refusal: Option<Stop>) -> bool {
     match refusal {
-        Some(stop) => Refusal::NoData.number() < stop.refusal.number(),
+        Some(stop) => Refusal::NoData < stop.refusal,
         None => true,
     }
 }
@@ -147,7 +147,7 @@ fn show_outcome<W: Write>(out: &mut W, outcome: Result<Counts, Stop>) -> io::Res
             writeln!(out, "accepted: {notes}, {bars}, {diagnostics}{more}")
         }
         Err(stop) => {
-            let number = stop.refusal.number();
+            let number = u32::from(stop.refusal);
             writeln!(out, "refused {number}")
         }
     }
