@@ -8,13 +8,14 @@ mod table; // table.rt: the lines of the table
 use cells::{
     RUBBISH, are_bars_right, are_diagnostics_right, are_notes_right, filled, is_figure_right,
 };
+use pae::answers::Reading;
 use pae::pae_read;
 use std::alloc::Global;
 use std::io;
 use std::io::{Read, Write};
 use stores::cells::{BAR, NOTE};
 use stores::diagnostic::Diagnostic;
-use table::{Case, Lent, Outcome};
+use table::{Case, Lent};
 
 /// The table has at most so many bytes.
 const TABLE: usize = 65536;
@@ -32,7 +33,7 @@ const CELLS: usize = 2000;
 /// What came of a case, and whether every cell is as it must be.
 #[derive(Clone, Copy)]
 struct Told {
-    outcome: Outcome,
+    reading: Reading,
     is_right: bool,
 }
 
@@ -57,13 +58,7 @@ fn call(
         &mut list[..cells],
     );
     Told {
-        outcome: Outcome {
-            number: reading.number,
-            place: reading.place,
-            notes: reading.notes,
-            bars: reading.bars,
-            diagnostics: reading.diagnostics,
-        },
+        reading,
         is_right: are_notes_right(&notes[..], reading.notes, note_words)
             && are_bars_right(&bars[..], reading.bars, bar_words)
             && is_figure_right(&figure[..], figure_words)
@@ -88,15 +83,15 @@ fn print_row<W: Write>(out: &mut W, case: Case<'_>, told: Told) -> io::Result<()
     out.write_all(case.lent)?;
     out.write_all(b"|")?;
     out.write_all(case.text)?;
-    let Outcome {
+    let Reading {
         number,
         place,
         notes,
         bars,
         diagnostics,
-    } = told.outcome;
+    } = told.reading;
     let cells = if told.is_right { "right" } else { "WRONG" };
-    let end = if told.outcome == case.expected() {
+    let end = if told.reading == case.expected() {
         ""
     } else {
         ", NOT AS THE TABLE SAYS"

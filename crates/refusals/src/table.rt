@@ -1,4 +1,5 @@
 // The lines of the table: a name, what is lent, a text, and what the specification says of it.
+use pae::answers::Reading;
 use std::alloc::Global;
 use std::io;
 
@@ -9,17 +10,6 @@ pub(crate) struct Lent {
     pub(crate) bars: usize,
     pub(crate) figure: usize,
     pub(crate) cells: usize,
-}
-
-/// What the specification gives, or what came: number and place of a refusal, 0 and 0 for none; counts.
-// Numbers, with 0 for none: the table has them so, and so has the C interface.
-#[derive(Clone, Copy, PartialEq, Eq)]
-pub(crate) struct Outcome {
-    pub(crate) number: u32,
-    pub(crate) place: u32,
-    pub(crate) notes: u32,
-    pub(crate) bars: u32,
-    pub(crate) diagnostics: u32,
 }
 
 /// A case, by the parts of its line.
@@ -86,8 +76,9 @@ impl<'l> Case<'l> {
         }
     }
 
-    pub(crate) fn expected(self) -> Outcome {
-        Outcome {
+    /// What the specification gives.
+    pub(crate) fn expected(self) -> Reading {
+        Reading {
             number: number_at(self.expected, 0),
             place: number_at(self.expected, 1),
             notes: number_at(self.expected, 2),

@@ -2,6 +2,7 @@
 use stores::cells::{BAR, FIRST_PITCH, NOTE, PITCH, natural};
 use stores::diagnostic::Diagnostic;
 use stores::note::PITCH_COUNT;
+use view::refusal::Refusal;
 
 /// The answer is another one.
 #[derive(Clone, Copy)]
@@ -132,9 +133,9 @@ impl<'l> Answer<'l> {
     }
 
     /// A refusal, by its number.
-    pub(crate) fn take_refusal(&mut self, number: u32) -> Result<(), Differs> {
+    pub(crate) fn take_refusal(&mut self, refusal: Refusal) -> Result<(), Differs> {
         self.take_byte(b'R')?;
-        self.take_number(number)
+        self.take_number(refusal.into())
     }
 
     /// The answer ends.

@@ -106,7 +106,7 @@ fn compare(
                 .unwrap_or(diagnostics);
             answer.take_diagnostics(stored, text)?;
         }
-        Err(stop) => answer.take_refusal(stop.refusal.into())?,
+        Err(stop) => answer.take_refusal(stop.refusal)?,
     }
     answer.end()
 }
