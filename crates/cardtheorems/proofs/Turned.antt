@@ -7,7 +7,7 @@ use lib.IntN.{ℤ}
 use lib.ListN.{length, length-append}
 use Rattle.rules.specs.Words.{cells}
 use Rattle.rules.specs.Agreement.{All}
-use Rattle.std.proofs.lemmas.Bool.{and_parts}
+use Rattle.cards.proofs.TakenLaws.{every_more}
 use Rattle.cards.specs.Fields.{each, every, holds}
 use Rattle.cards.proofs.PartLaws.{each_append}
 
@@ -36,16 +36,11 @@ no_more = record { held = refl }
 pub hold : (ts : List Bool) → Tests ts → holds ts ≡ true
 hold ts h = h.held
 
-every-last : {A : Type 0} (p : A → Bool) (l : List A) (x : A) → every p l ≡ true → p x ≡ true → every p (l ++ x ∷ []) ≡ true
-unfolding every
-every-last p [] x h g = rw g
-every-last p (y ∷ l) x h g = let t = and_parts (p y) (every p l) h in rw t.0 (every-last p l x t.1 g)
-
 module _ {A B : Type 0} (P : A → Type 0) (f : A → B) where
   pub every-turned : (p : B → Bool) → ((x : A) → P x → p (f x) ≡ true) → (l : List A) → All P l → every p (turned f l) ≡ true
   unfolding every
   every-turned p g [] h = refl
-  every-turned p g (x ∷ l) h = every-last p (turned f l) (f x) (every-turned p g l h.1) (g x h.0)
+  every-turned p g (x ∷ l) h = every_more p (turned f l) (f x) (every-turned p g l h.1) (g x h.0)
 
   -- the words of each element, the latest last
   pub cells-turned : (words : A → List ℤ) (own : B → List ℤ) → ((x : A) → P x → words x ≡ own (f x)) → (l : List A) → All P l → cells words l ≡ each own (turned f l)

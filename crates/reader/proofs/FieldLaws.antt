@@ -1,5 +1,9 @@
 -- A field sets and diagnoses what its key says; the lines one after the other. Assumes nothing.
-use Rattle.std.specs.Prelude.{if◌then◌else◌, Option, Some, None, is_some}
+use Rattle.std.specs.Prelude.{if◌then◌else◌, ◌++◌, Option, Some, None, is_some, MatchOption}
+use Rattle.std.specs.List.{list_any}
+use Rattle.std.proofs.lemmas.Iterator.{YieldsList}
+use Rattle.std.proofs.lemmas.Iterator.Consumers.{YieldsList-from_shown}
+use mathlib.Core.List.{append_assoc}
 use Rattle.std.proofs.Common.{◌≡◌, ℕ, zero, suc, ◌+◌, Bool, true, false, ◌&&◌, ◌||◌, cond, List, [], ◌∷◌, length, eqb, refl, sym, ap, ◌∙◌, subst, arith}
 use mathlib.Core.Bool.{false≢true}
 use Rattle.std.proofs.lemmas.Bool.{and_parts}
@@ -10,11 +14,11 @@ use Rattle.rules.specs.Values.{clef_of, key_of, meter_of}
 use Rattle.rules.specs.Records
 use Rattle.rules.specs.Records.{◌or◌, given, is_empty, at_line, at_field, Diagnostic}
 use Rattle.rules.specs.Diagnostics.{diagnostic, clef_diagnosed, key_diagnosed, meter_diagnosed}
-use Rattle.rules.specs.Fields.{Line, Field, Fields, field_of, is_field, has_field, field_next, field_diagnosed, line_diagnosed, part_value, no_fields, in_field_form, lines_after, lines_of, line_at, line_size, fields_after, lines_diagnosed}
+use Rattle.rules.specs.Fields.{Line, Field, Fields, field_of, is_field, has_field, field_next, field_diagnosed, line_diagnosed, part_value, no_fields, lines_after, lines_of, line_at, line_size, fields_after, lines_diagnosed}
 use Rattle.scan.specs.declared.lines.Lines.{Lines}
 use Rattle.scan.specs.declared.lines.TextLine.{TextLine}
 use Rattle.scan.specs.declared.lines.Field as scan_field
-use Rattle.scan.specs.Lines.{lines_left, line_of, IsFirstLine, ReadsField}
+use Rattle.scan.specs.Lines.{lines_left, line_of, field_in, IsFirstLine, GivesLine, ReadsField}
 use Rattle.stores.specs.declared.diagnostic.Diagnostics.{Diagnostics}
 use Rattle.stores.specs.Diagnostics.{list_after_all, count_after_all}
 use Rattle.scan.specs.Keys.{field_key_of}
@@ -137,12 +141,6 @@ pub ruleset field_laws = (field_sets, field_remarked)
 
 -- ---- lines
 
--- the lines that are read hold no field
-pub record Looked (text : List ℕ) (lines : Lines) : Type 0 where
-  pub before : List Line
-  pub left : lines_left lines before ≡ lines_of text
-  pub none : has_field before ≡ false
-
 -- what the lines that are read set and diagnose
 pub record Taken (text : List ℕ) (lines : Lines) (fields : Fields) (old : Diagnostics) (new : Diagnostics) : Type 0 where
   pub before : List Line
@@ -152,34 +150,66 @@ pub record Taken (text : List ℕ) (lines : Lines) (fields : Fields) (old : Diag
   pub list : new.list.now ≡ list_after_all old.list.now old.count (lines_diagnosed before)
   pub count : new.count ≡ count_after_all old.count (lines_diagnosed before)
 
--- a field among the earlier lines is one of them all
-pub has_later : (skip n o : ℕ) (xs : List ℕ) (before : List Line) → has_field before ≡ true → has_field (lines_after skip n o xs before) ≡ true
+-- those of `before` stand behind
+lines_apart : (skip n o : ℕ) (xs : List ℕ) (before : List Line) → lines_after skip n o xs before ≡ lines_after skip n o xs [] ++ before
 unfolding lines_after
-has_later skip n o [] before e = e
-has_later zero n o (x ∷ xs) before e = has_later (line_size (x ∷ xs)) (n + 1) (o + 1) xs (line_at n o (x ∷ xs) ∷ before) (or_true (is_field (line_at n o (x ∷ xs)).content.bytes) (has_field before) e)
-  where
-    or_true : (a b : Bool) → b ≡ true → (a || b) ≡ true
-    or_true true b e = refl
-    or_true false b e = e
-has_later (suc skip) n o (x ∷ xs) before e = has_later skip n (o + 1) xs before e
+lines_apart skip n o [] before = refl
+lines_apart zero n o (x ∷ xs) before =
+    let l = line_at n o (x ∷ xs) in
+    let k = line_size (x ∷ xs) in
+    lines_apart k (n + 1) (o + 1) xs (l ∷ before)
+    ∙ sym (ap (λ m. m ++ before) (lines_apart k (n + 1) (o + 1) xs (l ∷ [])) ∙ append_assoc (lines_after k (n + 1) (o + 1) xs []) (l ∷ []) before)
+lines_apart (suc skip) n o (x ∷ xs) before = lines_apart skip n (o + 1) xs before
 
--- a line that is a field
-pub field_found : (l : Line) (f : Field) (before : List Line) → field_of l ≡ math.some f → has_field (l ∷ before) ≡ true
-field_found l f before e = by (is_field l.content.bytes) _ e
+-- the lines in the other order
+abbrev pub turned : List Line → List Line
+turned [] = []
+turned (l ∷ ls) = turned ls ++ l ∷ []
+
+turned_last : (ls : List Line) (l : Line) → turned (ls ++ l ∷ []) ≡ l ∷ turned ls
+turned_last [] l = refl
+turned_last (x ∷ ls) l = ap (λ m. m ++ x ∷ []) (turned_last ls l)
+
+-- the lines that are left, from the first on
+abbrev first_on : Lines → List Line
+first_on s = turned (lines_left s [])
+
+first_none : (s t : Lines) → GivesLine s None t → length (first_on s) ≡ 0
+first_none s t g = ap (λ l. length (turned l)) (g [])
+
+first_next : (s : Lines) (line : TextLine) (t : Lines) → GivesLine s (Some line) t → first_on s ≡ line_of line ∷ first_on t
+first_next s line t g = ap turned (g.left [] ∙ lines_apart 0 t.number.0 t.rest.start.0 t.rest.bytes.now (line_of line ∷ [])) ∙ turned_last (lines_left t []) (line_of line)
+
+pub lines_yielded : (s : Lines) → YieldsList GivesLine line_of s (first_on s)
+lines_yielded s = YieldsList-from_shown GivesLine line_of first_on first_none first_next s
+
+-- whether a line is a field
+abbrev pub test : Line → Bool
+test l = is_field l.content.bytes
+
+pub field_told : (l : Line) (r : Option scan_field.Field) → ReadsField l r → is_some r ≡ test l
+field_told l r e = by r (is_field l.content.bytes) _ e
   where
-    by : (b : Bool) (g : Field) → (if b then math.some g else math.none) ≡ math.some f → (b || has_field before) ≡ true
-    by true g q = refl
-    by false g q = let h : ◌≡◌ {A = Bool} false true = ap Records.is_some q in absurd (false≢true h)
+    by : (r : Option scan_field.Field) (b : Bool) (f : Field) → MatchOption r ((if b then math.some f else math.none) ≡ math.none) (λ g. (if b then math.some f else math.none) ≡ math.some (field_in g)) → is_some r ≡ b
+    by None true f q = let h : ◌≡◌ {A = Bool} true false = ap Records.is_some q in absurd (false≢true (sym h))
+    by None false f q = refl
+    by (Some g) true f q = refl
+    by (Some g) false f q = let h : ◌≡◌ {A = Bool} false true = ap Records.is_some q in absurd (false≢true h)
+
+any_behind : (ls : List Line) (l : Line) → list_any test (ls ++ l ∷ []) ≡ (test l || list_any test ls)
+any_behind [] l = refl
+any_behind (x ∷ ls) l = ap (λ b. test x || b) (any_behind ls l) ∙ swapped (test x) (test l) (list_any test ls)
+  where
+    swapped : (a b c : Bool) → (a || (b || c)) ≡ (b || (a || c))
+    swapped true true c = refl
+    swapped true false c = refl
+    swapped false b c = refl
+
+pub any_turned : (ls : List Line) → list_any test (turned ls) ≡ has_field ls
+any_turned [] = refl
+any_turned (l ∷ ls) = any_behind (turned ls) l ∙ ap (λ b. test l || b) (any_turned ls)
 
 module _ {text : List ℕ} {lines : Lines} where
-  form_found : Looked text lines → {line : TextLine} {next : Lines} {f : Field} → IsFirstLine lines line next → field_of (line_of line) ≡ math.some f → in_field_form text ≡ true
-  form_found w {line} {next} {f} first e =
-      ap has_field (sym w.left ∙ first.left w.before) ∙ has_later 0 next.number.0 next.rest.start.0 next.rest.bytes.now (line_of line ∷ w.before) (field_found (line_of line) f w.before e)
-
-  pub form_read : Looked text lines → {line : TextLine} {next : Lines} (r : Option scan_field.Field) → IsFirstLine lines line next → ReadsField (line_of line) r → is_some r ≡ true → true ≡ in_field_form text
-  form_read w None first e t = absurd (false≢true t)
-  form_read w (Some f) first e t = sym (form_found w first e)
-
   pub none_taken : {s : Fields} {d : Diagnostics} → s ≡ no_fields → lines_left lines [] ≡ lines_of text → Taken text lines s d d
   unfolding fields_after lines_diagnosed
   none_taken e g = record { before = []; left = g; set = e; same = refl; list = refl; count = refl }
@@ -213,4 +243,4 @@ module _ {text : List ℕ} {lines : Lines} where
       pub all_counted : now.count ≡ count_after_all old.count (lines_diagnosed (lines_of text))
       all_counted = w.count ∙ ap (λ ls. count_after_all old.count (lines_diagnosed ls)) all_read
 
-pub ruleset line_laws = (form_read, none_taken, more_taken, all_set, all_listed, all_counted)
+pub ruleset line_laws = (none_taken, more_taken, all_set, all_listed, all_counted)

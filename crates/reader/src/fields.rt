@@ -121,18 +121,11 @@ impl<'t> Fields<'t> {
 // entry.
 
 /// Whether any line of the text is a field.
-#[tactic(auto, using(crate::proofs::FieldLaws::line_laws))]
 fn in_field_form(text: &[u8]) -> bool
     requires { length text.now ≤ text_limit }
     ensures { result ≡ in_field_form text.now }
 {
-    // No `any`: it speaks of the lines from the first on, the definitions from the latest back.
-    for line in Lines::new(text) {
-        if line.field().is_some() {
-            return true;
-        }
-    }
-    false
+    Lines::new(text).any(|line| line.field().is_some())
 }
 
 /// What the lines of a text in field form set, their diagnostics stored.
