@@ -168,6 +168,7 @@ fn show_one<W: Write>(out: &mut W, alloc: Global, text: &[u8], options: Options)
     });
     let notes = Notes::new(&notes, counts.notes as usize);
     let bars = Bars::new(&bars, counts.bars as usize);
+    // By `get`: that the count is no larger would need a clause of `read`.
     let stored = diagnostics
         .get(..counts.diagnostics as usize)
         .unwrap_or(&diagnostics);
