@@ -126,8 +126,9 @@ impl<'a> CardReader<'a> {
         requires { number < word_limit }
         ensures same_notes { SameCells notes.old notes.new }
         ensures read { MatchResult result
-            (λ _. NotesRead W.form count number self.old notes.old self.new notes.new)
-            (λ _. notes_taken W.form count self.old ≡ none) }
+            (λ _. NotesRead W.form count number
+            self.old.left.now notes.old self.new.left.now notes.new)
+            (λ _. notes_taken W.form count self.old.left.now ≡ none) }
     {
         for _ in 0..count {
             let note = self.note::<W>()?;
@@ -149,8 +150,8 @@ impl<'a> CardReader<'a> {
         ensures same_bars { SameCells bars.old bars.new }
         ensures read { MatchResult result
             (λ after. BarRead W.form counts
-            self.old notes.old bars.old after self.new notes.new bars.new)
-            (λ _. bar_behind W.form counts.notes self.old ≡ none) }
+            self.old.left.now notes.old bars.old after self.new.left.now notes.new bars.new)
+            (λ _. bar_behind W.form counts.notes self.old.left.now ≡ none) }
     {
         let (count, head) = self.head()?;
         if count < 1 {
@@ -180,8 +181,8 @@ impl<'a> CardReader<'a> {
         ensures same_bars { SameCells bars.old bars.new }
         ensures read { MatchResult result
             (λ counts. BarsRead W.form count
-            self.old notes.old bars.old counts self.new notes.new bars.new)
-            (λ _. bars_taken W.form count self.old ≡ none) }
+            self.old.left.now notes.old bars.old counts self.new.left.now notes.new bars.new)
+            (λ _. bars_taken W.form count self.old.left.now ≡ none) }
     {
         let mut counts = CardCounts { notes: 0, bars: 0 };
         for _ in 0..count {
@@ -200,8 +201,9 @@ impl<'a> CardReader<'a> {
         ensures same_notes { SameCells notes.old notes.new }
         ensures same_bars { SameCells bars.old bars.new }
         ensures read { MatchResult result
-            (λ counts. CardRead W.form self.old notes.old bars.old counts notes.new bars.new)
-            (λ _. card_taken W.form self.old ≡ none) }
+            (λ counts. CardRead W.form
+            self.old.left.now notes.old bars.old counts notes.new bars.new)
+            (λ _. card_taken W.form self.old.left.now ≡ none) }
     {
         if self.byte()? != W::first() {
             return Err(CardError::Invalid);
@@ -228,7 +230,8 @@ impl<'a> CardReader<'a> {
         requires bars { IsCleared bars.old }
         ensures same_notes { SameCells notes.old notes.new }
         ensures same_bars { SameCells bars.old bars.new }
-        ensures read { ReadsCard W.form self.old result notes.new.cells.now bars.new.cells.now }
+        ensures read { ReadsCard W.form self.old.left.now result
+            notes.new.cells.now bars.new.cells.now }
     {
         // The steps don't say which refusal theirs is.
         let Ok(counts) = self.records::<W>(notes, bars) else {

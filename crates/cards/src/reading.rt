@@ -10,22 +10,13 @@ use super::error::CardError;
 use super::heads::{Head, HeadNumbers};
 use super::notes::{Note, Numbers, Pitch, Pitches};
 use super::width::PlaceWidth;
-use std::marker::Model;
 use stores::cells::MAX_PITCHES;
 
 /// The bytes of a card that are left.
-#[derive(Drop)]
+// Clauses name the field: with a lifetime and a model it couldn't be `Copy` (tried).
+#[derive(Clone, Copy)]
 pub struct CardReader<'a> {
-    left: &'a [u8],
-}
-
-// Clauses see these bytes.
-impl<'a> Model for CardReader<'a> {
-    ghost use Rattle.std.specs.Prelude.{ℕ, List};
-
-    ghost Value = { List ℕ };
-
-    ghost view = { λ r. r.left.now };
+    pub(crate) left: &'a [u8],
 }
 
 impl<'a> CardReader<'a> {
@@ -33,7 +24,7 @@ impl<'a> CardReader<'a> {
 
     /// At the front of a card.
     pub fn new(card: &'a [u8]) -> CardReader<'a>
-        ensures { result ≡ card.entry.now }
+        ensures { result.left.now ≡ card.entry.now }
     {
         CardReader { left: card }
     }
@@ -41,7 +32,7 @@ impl<'a> CardReader<'a> {
     /// The next byte.
     #[inline(always)]
     pub fn byte(&mut self) -> Result<u8, CardError>
-        ensures { Takes byte_taken (λ b. b) self.old result self.new }
+        ensures { Takes byte_taken (λ b. b) self.old.left.now result self.new.left.now }
     {
         let Some((byte, left)) = self.left.split_first() else {
             return Err(CardError::Invalid);
@@ -52,7 +43,7 @@ impl<'a> CardReader<'a> {
 
     /// The number in the next two bytes, the low one first.
     pub fn two(&mut self) -> Result<u16, CardError>
-        ensures { Takes (number_taken 2) (λ n. n) self.old result self.new }
+        ensures { Takes (number_taken 2) (λ n. n) self.old.left.now result self.new.left.now }
     {
         let low = self.byte()?;
         let high = self.byte()?;
@@ -61,7 +52,7 @@ impl<'a> CardReader<'a> {
 
     /// The number in the next four bytes, the low one first.
     pub fn four(&mut self) -> Result<u32, CardError>
-        ensures { Takes (number_taken 4) (λ n. n) self.old result self.new }
+        ensures { Takes (number_taken 4) (λ n. n) self.old.left.now result self.new.left.now }
     {
         let bytes = [self.byte()?, self.byte()?, self.byte()?, self.byte()?];
         Ok(u32::from_le_bytes(bytes))
@@ -70,14 +61,14 @@ impl<'a> CardReader<'a> {
     /// The next byte, if its bit stands in the map, else 0.
     #[inline(always)]
     fn field(&mut self, bit: bool) -> Result<u8, CardError>
-        ensures { Takes (field_taken bit) (λ b. b) self.old result self.new }
+        ensures { Takes (field_taken bit) (λ b. b) self.old.left.now result self.new.left.now }
     {
         if bit { self.byte() } else { Ok(0) }
     }
 
     // A key under its bit.
     fn key(&mut self, bit: bool) -> Result<Option<u8>, CardError>
-        ensures { Takes (key_taken bit) key_value self.old result self.new }
+        ensures { Takes (key_taken bit) key_value self.old.left.now result self.new.left.now }
     {
         if !bit {
             return Ok(None);
@@ -89,7 +80,7 @@ impl<'a> CardReader<'a> {
     #[tactic(auto, unfolding(crate::specs::Taken::pitch_taken))]
     #[inline(always)]
     pub fn pitch<W: PlaceWidth>(&mut self) -> Result<Pitch, CardError>
-        ensures { Takes (pitch_taken W.form) card_pitch self.old result self.new }
+        ensures { Takes (pitch_taken W.form) card_pitch self.old.left.now result self.new.left.now }
     {
         let place = W::take(self)?;
         let tone = self.byte()?;
@@ -106,7 +97,8 @@ impl<'a> CardReader<'a> {
     #[tactic(auto, unfolding(crate::specs::Taken::pitches_taken, crate::specs::Taken::repeated))]
     #[inline(always)]
     pub fn pitches<W: PlaceWidth>(&mut self, count: u8) -> Result<Pitches, CardError>
-        ensures { Takes (pitches_taken W.form count) card_pitches self.old result self.new }
+        ensures { Takes (pitches_taken W.form count) card_pitches
+            self.old.left.now result self.new.left.now }
     {
         if usize::from(count) > MAX_PITCHES {
             return Err(CardError::Invalid);
@@ -123,7 +115,7 @@ impl<'a> CardReader<'a> {
     // Field by field, in the card's order, here and in `head`.
     #[tactic(auto, unfolding(crate::specs::Taken::note_taken))]
     pub fn note<W: PlaceWidth>(&mut self) -> Result<Note, CardError>
-        ensures { Takes (note_taken W.form) card_note self.old result self.new }
+        ensures { Takes (note_taken W.form) card_note self.old.left.now result self.new.left.now }
     {
         let map = self.byte()?;
         let place = W::take(self)?;
@@ -157,7 +149,8 @@ impl<'a> CardReader<'a> {
     /// The next bar's note count and head.
     #[tactic(auto, unfolding(crate::specs::Taken::head_taken))]
     pub fn head(&mut self) -> Result<(u32, Head), CardError>
-        ensures { Takes head_taken (λ p. (p.0, card_head p.1)) self.old result self.new }
+        ensures { Takes head_taken (λ p. (p.0, card_head p.1))
+            self.old.left.now result self.new.left.now }
     {
         let map = self.byte()?;
         let count = self.four()?;
@@ -186,7 +179,7 @@ impl<'a> CardReader<'a> {
 
     // Whether nothing is left.
     pub(crate) fn is_done(&self) -> bool
-        ensures { result ≡ eqb (length self.now) 0 }
+        ensures { result ≡ eqb (length self.now.left.now) 0 }
     {
         self.left.is_empty()
     }

@@ -30,7 +30,7 @@ pub trait PlaceWidth {
 
     /// Reads the next place.
     fn take(reader: &mut CardReader<'_>) -> Result<u32, CardError>
-        ensures { TakesPlace form.width reader.old result reader.new };
+        ensures { TakesPlace form.width reader.old.left.now result reader.new.left.now };
 
     ghost fits: { form.greatest < 256 ^ form.width };
 

@@ -4,7 +4,7 @@
 // `--lines`, each line is one. The line end behind a text is no part of it.
 #![tactic(auto)]
 
-ghost use Rattle.std.specs.Prelude.{◌≤◌, length};
+ghost use Rattle.std.specs.Prelude.{◌≤◌, IfOk, length};
 ghost use Rattle.rules.specs.Limits.{text_limit};
 
 mod arguments; // arguments.rt: what the program is asked for
@@ -309,10 +309,14 @@ fn refuse_argument<W: Write>(
 }
 
 // The text that is an argument, or the input.
-fn input_of<R: Env + Input>(rt: &R, alloc: Global, text: Option<usize>) -> io::Result<Vec<u8>> {
+fn input_of<R: Env + Input>(rt: &R, alloc: Global, text: Option<usize>) -> io::Result<Vec<u8>>
+    ensures within { IfOk result (λ input. length input.items ≤ 131072) }
+{
     let Some(number) = text else {
         let mut input = Vec::new(alloc);
         rt.reader().take(INPUT as u64).read_to_end(&mut input)?;
+        // Nothing goes: std's `take` says so of no reader whose bytes aren't known.
+        input.truncate(INPUT);
         return Ok(input);
     };
     // std's `arg` fills a slice.

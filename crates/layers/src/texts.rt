@@ -1,12 +1,15 @@
 // The texts of an input, and the keysig field of a text.
-ghost use Rattle.std.specs.Prelude.{◌<◌, ◌^◌, length};
+ghost use Rattle.std.specs.Prelude.{◌≡◌, ◌<◌, ◌≤◌, ◌^◌, length, take};
 
 use scan::classes::is_text;
 use scan::lines::{FieldKey, Line, Lines, TextLine};
 
 /// A line or a text without the line end behind it: a carriage return and a line feed, or one of
 /// them.
-pub(crate) fn without_line_end(line: &[u8]) -> &[u8] {
+pub(crate) fn without_line_end(line: &[u8]) -> &[u8]
+    ensures begins { result.now ≡ take (length result.now) line.entry.now }
+    ensures within { length result.now ≤ length line.entry.now }
+{
     let line = line.strip_suffix(b"\n").unwrap_or(line);
     line.strip_suffix(b"\r").unwrap_or(line)
 }

@@ -1,37 +1,37 @@
 -- What became of marks that wait. Assumes nothing.
 use Rattle.std.specs.Prelude.{ℕ, ◌+◌, Bool, List, Option, None, Some, drop, leb, is_some, ◌&&◌, if◌then◌else◌}
-use Rattle.tokens.specs.Kinds.{token_in}
-use Rattle.marks.specs.declared.lookback.Mark.{Mark}
+use Rattle.marks.specs.declared.mark.Mark.{Mark}
 use Rattle.marks.specs.declared.waiting.Fate.{Fate}
 use Rattle.marks.specs.declared.waiting.Fate.TheVariants as f
 use Rattle.marks.specs.Kinds as k
 use Rattle.marks.specs.LookBack.{first_of}
+use Rattle.marks.specs.Marks.{token_of_mark}
 
 -- ---- marks, by their tokens
 
 abbrev pub is_letter : Mark → Bool
-is_letter m = k.is_letter (token_in m.token)
+is_letter m = k.is_letter (token_of_mark m)
 
 abbrev pub opens_note : Mark → Bool
 opens_note m = is_letter m && is_some m.stored
 
 abbrev pub is_sign : Mark → Bool
-is_sign m = k.is_sign (token_in m.token)
+is_sign m = k.is_sign (token_of_mark m)
 
 abbrev pub is_grace : Mark → Bool
-is_grace m = k.is_grace (token_in m.token)
+is_grace m = k.is_grace (token_of_mark m)
 
 abbrev pub opens_beam : Mark → Bool
-opens_beam m = k.opens_beam (token_in m.token)
+opens_beam m = k.opens_beam (token_of_mark m)
 
 abbrev pub closes_beam : Mark → Bool
-closes_beam m = k.closes_beam (token_in m.token)
+closes_beam m = k.closes_beam (token_of_mark m)
 
 abbrev pub opens_group : Mark → Bool
-opens_group m = k.opens_group (token_in m.token)
+opens_group m = k.opens_group (token_of_mark m)
 
 abbrev pub closes_group : Mark → Bool
-closes_group m = k.closes_group (token_in m.token)
+closes_group m = k.closes_group (token_of_mark m)
 
 -- ---- fates
 

@@ -5,4 +5,5 @@ pub mod Kinds
 pub mod LookBack
 pub mod Marks
 pub mod Records
+pub mod Short
 pub mod Values

@@ -2,7 +2,7 @@
 use Rattle.std.specs.Prelude.{ℕ, ◌≡◌, ◌+◌, Bool, List, [], ◌∷◌, Option, None, Some, reverse, leb, if◌then◌else◌}
 use denote.Ref.{Bor}
 use denote.Param.Members.{Shared}
-use Rattle.marks.specs.declared.lookback.Mark.{Mark}
+use Rattle.marks.specs.declared.mark.Mark.{Mark}
 
 -- what a test answers of each mark
 abbrev pub Answers : {F : Type 0} → Shared F (Bor Mark × Unit {0}) Bool → F → (Mark → Bool) → Type 0

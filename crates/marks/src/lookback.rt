@@ -1,318 +1,59 @@
-// The marks of the data, its tokens, and the look-back over them: over the marks before a letter,
-// the latest first.
-ghost use Rattle.std.specs.Prelude.{◌≡◌, ◌+◌, ◌<◌, ◌≤◌, false, length, take, drop, IfOk, IfSome, is_some, ◌&&◌};
-ghost use Rattle.rules.specs.Tokens.{items_of, token_of};
+// The look-back over the marks of the data: over the marks before a letter, the latest first.
+ghost use Rattle.std.specs.Prelude.{◌≡◌, ◌+◌, ◌^◌, ◌<◌, ◌≤◌, false, length, take, drop, IfOk};
+ghost use Rattle.rules.specs.Tokens.{items_of};
 ghost use Rattle.scan.specs.Parts.{part_of};
-ghost use Rattle.tokens.specs.Kinds.{token_in};
-ghost use Rattle.marks.specs.Kinds.{is_letter, is_octave, is_sign, is_chord, is_whole_bars, is_barline, is_pattern, is_clef, is_key, is_grace, is_grace_group, is_rest, is_figure_mark, opens_beam, closes_beam, opens_group, closes_group};
-ghost use Rattle.marks.specs.Values.{octave_of, accidental_of, step_of, pattern_of, clef_of, key_of, grace_of, grace_group_of};
-ghost use Rattle.marks.specs.Marks.{items_in, bytes_in, last_of, IsMark, AreMarks, took_length};
+ghost use Rattle.marks.specs.Marks.{items_in, bytes_in, AreMarks, AreAll, Enters};
+ghost use Rattle.marks.specs.Marks.{whole, capped, AreAllCapped, EntersCapped};
 ghost use Rattle.marks.specs.LookBack.{Answers, latest_of, count_of, first_of, stands_at};
 
+use crate::mark::Cut;
+pub use crate::mark::Mark;
 use crate::records::Notes;
-use rows::terms::Term;
-use rows::text::Excerpt;
+use scan::characters::count_characters;
 use scan::lines::{Offset, Part};
 use std::alloc::{AllocError, Global};
-use std::fmt;
-use stores::note::KIND;
-use tokens::attributes::{ClefValue, Key};
-use tokens::cut::{Place, Span, Tokens};
-use tokens::kinds::{Figure, Grace, Marking, Token};
-use tokens::rhythm::{Accidental, Octave, Pattern, Step};
+use tokens::cut::{Place, Tokens, token_size};
 
-/// A mark: a token of the data, with its number from 0, its place, its offset in the text and its
-/// bytes, and with the number of the last record that it stored, where it stored one.
-#[derive(Clone, Copy)]
-pub struct Mark<'d> {
-    pub number: usize,
-    pub place: Place,
-    pub start: Offset,
-    pub text: &'d [u8],
-    pub token: Token<'d>,
-    pub stored: Option<usize>,
-    /// Whether it took a length of the pattern: a rest, or a letter that opened a note and no
-    /// grace.
-    pub took_length: bool,
-}
-
-impl<'d> Mark<'d> {
-    /// The mark of a token, by its number and its bytes; it stored those of the records from
-    /// `first` on that have its place.
-    pub fn new(
-        number: usize,
-        span: Span<'d>,
-        text: &'d [u8],
-        notes: Notes<'_>,
-        first: usize,
-    ) -> Mark<'d>
-        requires { first ≤ length notes.0.now }
-        ensures mark { IsMark notes.entry.0.now number first result }
-        ensures place { result.place ≡ span.entry.place }
-        ensures start { result.start ≡ span.entry.offset }
-        ensures text { result.text ≡ text.entry }
-        ensures token { token_in result.token ≡ token_of span.entry.first span.entry.value.now }
-    {
-        let stored = last_of(first, notes.end_at(first, span.place));
-        let token = span.decode();
-        Mark {
-            number,
-            place: span.place,
-            start: span.offset,
-            text,
-            token,
-            stored,
-            took_length: took_length(token, notes, stored),
-        }
-    }
-
-    // A method for each kind that is asked for: no generic function takes a pattern.
-
-    /// The octave that it sets; one out of range is none.
-    pub fn octave(&self) -> Option<Octave>
-        ensures { result ≡ octave_of self.now.token }
-    {
-        match self.token {
-            Token::Octave(octave) => octave,
-            _ => None,
-        }
-    }
-
-    /// The accidental that it is.
-    pub fn accidental(&self) -> Option<Accidental>
-        ensures { result ≡ accidental_of self.now.token }
-    {
-        match self.token {
-            Token::Accidental(accidental) => Some(accidental),
-            _ => None,
-        }
-    }
-
-    /// The step of a letter.
-    pub fn step(&self) -> Option<Step>
-        ensures { result ≡ step_of self.now.token }
-    {
-        match self.token {
-            Token::Letter(step) => Some(step),
-            _ => None,
-        }
-    }
-
-    /// The pattern of lengths that it sets.
-    pub fn pattern(&self) -> Option<Pattern<'d>>
-        ensures { result ≡ pattern_of self.now.token }
-    {
-        match self.token {
-            Token::Duration(pattern) => Some(pattern),
-            _ => None,
-        }
-    }
-
-    /// The clef that it is, known or not.
-    pub fn clef(&self) -> Option<ClefValue>
-        ensures { result ≡ clef_of self.now.token }
-    {
-        match self.token {
-            Token::Clef(clef) => Some(clef),
-            _ => None,
-        }
-    }
-
-    /// The key that it is.
-    pub fn key(&self) -> Option<Key>
-        ensures { result ≡ key_of self.now.token }
-    {
-        match self.token {
-            Token::Key(key) => Some(key),
-            _ => None,
-        }
-    }
-
-    /// `g` or `q`.
-    pub fn grace(&self) -> Option<Grace>
-        ensures { result ≡ grace_of self.now.token }
-    {
-        match self.token {
-            Token::Grace(grace) => Some(grace),
-            _ => None,
-        }
-    }
-
-    /// Whether it begins a grace group (`qq`) or ends one (`r`).
-    pub fn grace_group(&self) -> Option<bool>
-        ensures { result ≡ grace_group_of self.now.token }
-    {
-        match self.token {
-            Token::GraceGroup(begins) => Some(begins),
-            _ => None,
-        }
-    }
-
-    /// The letter of a step.
-    pub fn is_letter(&self) -> bool
-        ensures { result ≡ is_letter (token_in self.now.token) }
-    {
-        matches!(self.token, Token::Letter(_))
-    }
-
-    /// An octave that is in range.
-    pub fn is_octave(&self) -> bool
-        ensures { result ≡ is_octave (token_in self.now.token) }
-    {
-        matches!(self.token, Token::Octave(Some(_)))
-    }
-
-    /// `x`, `b`, `n` and longer runs.
-    pub fn is_sign(&self) -> bool
-        ensures { result ≡ is_sign (token_in self.now.token) }
-    {
-        matches!(self.token, Token::Accidental(_))
-    }
-
-    /// `^`.
-    pub fn is_chord(&self) -> bool
-        ensures { result ≡ is_chord (token_in self.now.token) }
-    {
-        matches!(self.token, Token::Chord)
-    }
-
-    /// An `=` of two or more bars: a barline stands in it.
-    pub fn is_whole_bars(&self) -> bool
-        ensures { result ≡ is_whole_bars (token_in self.now.token) }
-    {
-        matches!(self.token, Token::WholeBars(Some(2..)))
-    }
-
-    /// A barline, or an `=` in which one stands.
-    pub fn is_barline(&self) -> bool
-        ensures { result ≡ is_barline (token_in self.now.token) }
-    {
-        matches!(self.token, Token::Barline(_)) || self.is_whole_bars()
-    }
-
-    /// A pattern of lengths.
-    pub fn is_pattern(&self) -> bool
-        ensures { result ≡ is_pattern (token_in self.now.token) }
-    {
-        matches!(self.token, Token::Duration(_))
-    }
-
-    /// A clef, known or not.
-    pub fn is_clef(&self) -> bool
-        ensures { result ≡ is_clef (token_in self.now.token) }
-    {
-        matches!(self.token, Token::Clef(_))
-    }
-
-    /// A key.
-    pub fn is_key(&self) -> bool
-        ensures { result ≡ is_key (token_in self.now.token) }
-    {
-        matches!(self.token, Token::Key(_))
-    }
-
-    /// `g` or `q`.
-    pub fn is_grace(&self) -> bool
-        ensures { result ≡ is_grace (token_in self.now.token) }
-    {
-        matches!(self.token, Token::Grace(_))
-    }
-
-    /// `qq` or `r`.
-    pub fn is_grace_group(&self) -> bool
-        ensures { result ≡ is_grace_group (token_in self.now.token) }
-    {
-        matches!(self.token, Token::GraceGroup(_))
-    }
-
-    /// `-`.
-    pub fn is_rest(&self) -> bool
-        ensures { result ≡ is_rest (token_in self.now.token) }
-    {
-        matches!(self.token, Token::Rest)
-    }
-
-    /// `!`.
-    pub fn is_figure_mark(&self) -> bool
-        ensures { result ≡ is_figure_mark (token_in self.now.token) }
-    {
-        matches!(self.token, Token::Figure(Figure::Mark))
-    }
-
-    /// `{`.
-    pub fn opens_beam(&self) -> bool
-        ensures { result ≡ opens_beam (token_in self.now.token) }
-    {
-        matches!(self.token, Token::Marking(Marking::BeamOpen))
-    }
-
-    /// `}`.
-    pub fn closes_beam(&self) -> bool
-        ensures { result ≡ closes_beam (token_in self.now.token) }
-    {
-        matches!(self.token, Token::Marking(Marking::BeamClose))
-    }
-
-    /// `(`.
-    pub fn opens_group(&self) -> bool
-        ensures { result ≡ opens_group (token_in self.now.token) }
-    {
-        matches!(self.token, Token::Marking(Marking::GroupOpen))
-    }
-
-    /// `)`.
-    pub fn closes_group(&self) -> bool
-        ensures { result ≡ closes_group (token_in self.now.token) }
-    {
-        matches!(self.token, Token::Marking(Marking::GroupClose))
-    }
-
-    /// Whether it stored a record.
-    pub fn stores(&self) -> bool
-        ensures { result ≡ is_some self.now.stored }
-    {
-        self.stored.is_some()
-    }
-
-    /// Whether it is a letter that opened a record.
-    pub fn opens_note(&self) -> bool
-        ensures { result ≡ (is_letter (token_in self.now.token) && is_some self.now.stored) }
-    {
-        self.is_letter() && self.stores()
-    }
-}
-
-/// A mark's text and its place.
-impl<'d> fmt::Display for Mark<'d> {
-    fn fmt<W: fmt::Write>(&self, f: &mut fmt::Formatter<W>) -> fmt::Result {
-        let text = Excerpt(self.text);
-        let place = Term(self.place);
-        write!(f, "{text} at {place}")
-    }
-}
-
-/// The number of the last of the records from one number on and below another, if there are any.
-fn last_of(first: usize, end: usize) -> Option<usize>
-    ensures { result ≡ last_of first end }
+/// A number that a `u32` may not hold: the greatest one in place of a greater one.
+fn capped(number: usize) -> u32
+    ensures { result ≡ capped number }
 {
-    if first < end { Some(end - 1) } else { None }
+    u32::try_from(number).unwrap_or(u32::MAX)
 }
 
-/// Whether a token took a length of the pattern: a rest, or a letter that opened a note and no
-/// grace; it stored this record.
-fn took_length(token: Token<'_>, notes: Notes<'_>, stored: Option<usize>) -> bool
-    requires { IfSome stored (λ number. number < length notes.0.now) }
-    ensures { result ≡ took_length notes.entry.0.now (token_in token.entry) stored }
+/// Enters the marks of the data into a list that is lent, in order, as many as it has room for; how
+/// many there are. It allocates nothing, and takes data of any length: a place or an offset that no
+/// `u32` holds is entered as the greatest one, `u32::MAX`.
+pub fn enter_marks<'d>(list: &mut [Mark<'d>], data: &'d [u8], notes: Notes<'_>) -> usize
+    ensures count { result ≡ length (items_of (whole «data».entry.now)) }
+    ensures within { result ≤ length «data».entry.now }
+    ensures marks { EntersCapped notes.entry.0.now (whole «data».entry.now) list.old list.new }
+    ensures all { result ≤ length list.old →
+        AreAllCapped notes.entry.0.now (whole «data».entry.now) (take result list.new) }
+    ensures marks_held { length «data».entry.now < 2 ^ 32 →
+        Enters notes.entry.0.now (whole «data».entry.now) list.old list.new }
+    ensures all_held { length «data».entry.now < 2 ^ 32 → result ≤ length list.old →
+        AreAll notes.entry.0.now (whole «data».entry.now) (take result list.new) }
 {
-    let Some(number) = stored else {
-        return false;
-    };
-    match token {
-        Token::Rest => true,
-        // By the word: one below 0 counts as 0 here, and is no kind for `Note::kind`.
-        Token::Letter(_) => notes.0[number][KIND] <= 0,
-        _ => false,
+    let mut rest = data;
+    let mut characters = 0;
+    let mut next = 0;
+    let mut count = 0;
+    while let Some((first, behind)) = rest.split_first() {
+        let size = token_size(*first, behind);
+        let (text, left) = rest.split_at(size);
+        let place = Place(capped(characters + 1));
+        let start = Offset(capped(data.len() - rest.len()));
+        let mark = Mark::of_text(count, place, start, text, notes, next);
+        if count < list.len() {
+            list[count] = mark;
+        }
+        count += 1;
+        characters += 1 + count_characters(&behind[..size - 1]);
+        next = notes.end_at(next, place);
+        rest = left;
     }
+    count
 }
 
 /// The first mark that is sought.
@@ -349,7 +90,7 @@ impl<'d> Marks<'d> {
         let mut next = 0;
         for span in Tokens::new(data) {
             let (text, behind) = rest.split_at(1 + span.value.len());
-            list.push(Mark::new(list.len(), span, text, notes, next))?;
+            list.push(Mark::new(list.len(), Cut { span, text }, notes, next))?;
             next = notes.end_at(next, span.place);
             rest = behind;
         }

@@ -1,8 +1,9 @@
 // Records by their fields.
-ghost use Rattle.std.specs.Prelude.{◌≡◌, ◌+◌, ◌≤◌, length, take, not};
+ghost use Rattle.std.specs.Prelude.{◌≡◌, ◌+◌, ◌<◌, ◌≤◌, length, take, not, IfSome};
 ghost use Rattle.std.specs.List.{prefix_len};
 ghost use Rattle.rules.specs.Records.{is_grace_kind};
-ghost use Rattle.marks.specs.Marks.{record_place, end_at, has_place};
+ghost use Rattle.tokens.specs.Kinds.{token_in};
+ghost use Rattle.marks.specs.Marks.{record_place, end_at, has_place, last_of, took_length};
 ghost use Rattle.marks.specs.Records.{word_of, number_of, records_in, TheOne, IsRecordAt, kind_of, IsLengthOf, tie_starts, tie_ends, beam_of, tuplet_of, mark_of, IsPitch, IsPitchAt};
 ghost use Rattle.marks.specs.Bars.{IsClef, IsKey, IsSymbol, IsMeter, IsBar, IsBarAt};
 
@@ -14,6 +15,7 @@ use stores::note::{
 };
 use tokens::attributes::{Clef, Meter, Symbol};
 use tokens::cut::Place;
+use tokens::kinds::Token;
 use tokens::rhythm::{Duration, Edge, Length, Octave, Step};
 
 /// Where a note stands in its beam.
@@ -234,6 +236,30 @@ impl<'a> Notes<'a> {
         ensures within { result ≤ length self.entry.0.now }
     {
         first + count_at(&self.0[first..], place)
+    }
+}
+
+/// The number of the last of the records from one number on and below another, if there are any.
+pub(crate) fn last_of(first: usize, end: usize) -> Option<usize>
+    ensures { result ≡ last_of first end }
+{
+    if first < end { Some(end - 1) } else { None }
+}
+
+/// Whether a token took a length of the pattern: a rest, or a letter that opened a note and no
+/// grace; it stored this record.
+pub(crate) fn took_length(token: Token<'_>, notes: Notes<'_>, stored: Option<usize>) -> bool
+    requires { IfSome stored (λ number. number < length notes.0.now) }
+    ensures { result ≡ took_length notes.entry.0.now (token_in token.entry) stored }
+{
+    let Some(number) = stored else {
+        return false;
+    };
+    match token {
+        Token::Rest => true,
+        // By the word: one below 0 counts as 0 here, and is no kind for `Note::kind`.
+        Token::Letter(_) => notes.0[number][KIND] <= 0,
+        _ => false,
     }
 }
 

@@ -1,7 +1,8 @@
 // The second layer: the marks of the data, what each is and what became of it.
 use crate::shown::Shown;
 use marks::findings::Finding;
-use marks::lookback::Mark;
+use marks::kind::Kind;
+use marks::lookback::{Mark, Marks};
 use marks::signs::{
     BarlineSign, ClefSign, CountSign, KeySign, MeterSign, OctaveSign, PatternSign, WholeBarsSign,
 };
@@ -32,11 +33,14 @@ impl<'a, 'd> Meaning<'a, 'd> {
 
     /// What is set at the start of a bar is lost where no bar follows.
     fn say_lost<W: fmt::Write>(&self, f: &mut fmt::Formatter<W>) -> fmt::Result {
+        if !self.told {
+            return Ok(());
+        }
         let next = self
             .shown
             .marks
             .first_after(self.mark.number, |mark| mark.stores());
-        f.write_str(if self.told && next.is_none() {
+        f.write_str(if next.is_none() {
             "; no bar follows, so it is lost"
         } else {
             ""
@@ -170,9 +174,16 @@ impl<'a, 'd> Meaning<'a, 'd> {
         }
     }
 
-    /// What became of it, where the records tell that.
-    fn say_fate<W: fmt::Write>(&self, f: &mut fmt::Formatter<W>, fate: Fate<'d>) -> fmt::Result {
+    /// What became of it, where the records tell that; a fate is looked for only then.
+    fn say_fate<W: fmt::Write, S: Fn(&Marks<'d>, Mark<'d>) -> Fate<'d>>(
+        &self,
+        f: &mut fmt::Formatter<W>,
+        fate: S,
+    ) -> fmt::Result
+        requires { S.IsAlwaysCallable fate }
+    {
         if self.told {
+            let fate = fate(self.shown.marks, self.mark);
             write!(f, "{fate}")?;
         }
         Ok(())
@@ -193,7 +204,7 @@ impl<'a, 'd> Meaning<'a, 'd> {
         if self.remark == Some(Remark::TieAlone) {
             return f.write_str(", no note right before it in this bar");
         }
-        self.say_fate(f, Fate::of_tie(self.shown.marks, self.mark))
+        self.say_fate(f, |marks, mark| Fate::of_tie(marks, mark))
     }
 
     fn say_trill<W: fmt::Write>(&self, f: &mut fmt::Formatter<W>) -> fmt::Result {
@@ -254,7 +265,7 @@ impl<'a, 'd> Meaning<'a, 'd> {
 impl<'a, 'd> fmt::Display for Meaning<'a, 'd> {
     fn fmt<W: fmt::Write>(&self, f: &mut fmt::Formatter<W>) -> fmt::Result {
         let marks = self.shown.marks;
-        match self.mark.token {
+        match self.mark.token() {
             Token::Clef(clef) => {
                 let sign = ClefSign(clef);
                 write!(f, "{sign}")?;
@@ -282,7 +293,7 @@ impl<'a, 'd> fmt::Display for Meaning<'a, 'd> {
             Token::Letter(step) => self.say_letter(f, step),
             Token::Chord => {
                 f.write_str("chord")?;
-                self.say_fate(f, Fate::of_chord(marks, self.mark))
+                self.say_fate(f, |marks, mark| Fate::of_chord(marks, mark))
             }
             Token::Rest => f.write_str("rest"),
             Token::WholeBars(count) => {
@@ -299,7 +310,7 @@ impl<'a, 'd> fmt::Display for Meaning<'a, 'd> {
                     Grace::Acciaccatura => "slashed grace",
                     Grace::Appoggiatura => "grace",
                 })?;
-                self.say_fate(f, Fate::of_grace(marks, self.mark))
+                self.say_fate(f, |marks, mark| Fate::of_grace(marks, mark))
             }
             Token::GraceGroup(true) => f.write_str("grace group starts"),
             Token::GraceGroup(false) => f.write_str(self.outcome(
@@ -357,7 +368,7 @@ impl<'a, 'd> Shown<'a, 'd> {
         writeln!(out, "   place  mark        what it is")?;
         let told = self.tells_all();
         for mark in self.marks.as_slice() {
-            if !matches!(mark.token, Token::Blank) {
+            if !matches!(mark.kind, Kind::Blank) {
                 let number = mark.place.0;
                 let text = Excerpt(mark.text);
                 let meaning = Meaning {

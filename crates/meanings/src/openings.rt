@@ -2,13 +2,14 @@
 ghost use Rattle.std.specs.Prelude.{◌≤◌, length};
 
 use crate::shown::Shown;
+use marks::kind::Kind;
 use marks::lookback::Mark;
 use marks::records::{Note, Notes, Tuplet};
-use tokens::kinds::{Marking, Token};
+use tokens::kinds::Marking;
 
 /// Whether it is a `;` with a count.
 fn is_count(mark: &Mark<'_>) -> bool {
-    matches!(mark.token, Token::Marking(Marking::GroupCount(Some(_))))
+    matches!(mark.kind, Kind::Marking(Marking::GroupCount(Some(_))))
 }
 
 impl<'a, 'd> Shown<'a, 'd> {

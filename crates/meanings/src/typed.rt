@@ -4,6 +4,7 @@ use crate::refusals::{last_line, show_refusal};
 use crate::shown::{MARGIN, Shown};
 use rows::headings::show_heading;
 use rows::text::Text;
+use scan::characters::count_characters;
 use scan::lines::{Line, Lines, Offset, Part};
 use std::io;
 use std::io::Write;
@@ -50,6 +51,14 @@ fn show_pieces<W: Write>(out: &mut W, line: &[u8], number: Line) -> io::Result<(
         }
     }
     Ok(())
+}
+
+/// The place of an offset in the data: one more than the characters before it. Of text that is not
+/// well-formed, a byte that can only continue a character counts for none.
+fn place_at(data: Part<'_>, offset: Offset) -> usize {
+    let size = offset.0.saturating_sub(data.start.0) as usize;
+    let before = data.bytes.get(..size).unwrap_or(data.bytes);
+    count_characters(before).saturating_add(1)
 }
 
 /// Whether an offset stands in a part or at its end.
@@ -133,6 +142,9 @@ impl<'a, 'd> Shown<'a, 'd> {
 
     /// The places of the line ends that were read as blanks, the first of them.
     fn show_line_ends<W: Write>(&self, out: &mut W) -> io::Result<()> {
+        let Some(data) = self.data else {
+            return Ok(());
+        };
         let ends = self
             .marks
             .as_slice()
@@ -143,7 +155,7 @@ impl<'a, 'd> Shown<'a, 'd> {
             if named == NAMED {
                 return writeln!(out, " ..");
             }
-            let place = end.place.0;
+            let place = place_at(data, end.start);
             if any {
                 write!(out, ", {place}")?;
             } else {

@@ -1,6 +1,6 @@
 -- The lent list after all diagnostics has the rules' words. Assumes nothing.
-use Rattle.std.specs.Prelude.{slice_set}
-use Rattle.std.proofs.Common.{◌≡◌, ℕ, zero, suc, ◌+◌, ◌-◌, ◌*◌, ◌<◌, ◌≤◌, ⊎_elim, List, [], ◌∷◌, ◌++◌, length, pos, refl, sym, ap, ◌∙◌, arith}
+use Rattle.std.specs.Prelude.{slice_set, if◌then◌else◌, ℤ}
+use Rattle.std.proofs.Common.{◌≡◌, ℕ, zero, suc, ◌+◌, ◌-◌, ◌*◌, ◌<◌, ◌≤◌, ⊎_elim, Bool, true, false, min, ltb, List, [], ◌∷◌, ◌++◌, length, drop, pos, refl, sym, ap, ◌∙◌, arith}
 use Rattle.std.proofs.lemmas.Bool.{cases_lt, lt-ltb, le-ltb}
 use Rattle.std.proofs.lemmas.Bool.Decides.{nat_tests}
 use lib.ListN.{length-append, length-replicate, length-drop, replicate-append-replicate}
@@ -87,56 +87,113 @@ count-stored ds = count-capped ds ∙ sym (length-drop (length ds - diagnostic_l
 pub few-stored : (ds : List Diagnostic) → length (stored_diagnostics ds) ≤ diagnostic_limit
 few-stored ds = rw (length-drop (length ds - diagnostic_limit) ds) (omega arith)
 
+-- ---- a list of n cells, however few: it holds the first that find a cell
+
+abbrev pub held_limit : ℕ → ℕ
+held_limit n = min n diagnostic_limit
+
+-- the latest first
+abbrev pub held : ℕ → List Diagnostic → List Diagnostic
+held n ds = drop (length ds - held_limit n) ds
+
+-- these, and blank cells behind them
+abbrev filled : ℕ → List Diagnostic → List stores.Diagnostic
+filled n ds = listed ds ++ blanks (n - length ds)
+
+abbrev pub held_list : ℕ → List Diagnostic → List stores.Diagnostic
+held_list n ds = filled n (held n ds)
+
+abbrev pub held_cells : ℕ → List Diagnostic → List ℤ
+held_cells n ds = padded (diagnostic_size * n) (cells diagnostic_words (held n ds))
+
+few-held : (n : ℕ) (ds : List Diagnostic) → length (held n ds) ≤ held_limit n
+few-held n ds = rw (length-drop (length ds - held_limit n) ds) (omega arith)
+
+length-filled : (n : ℕ) (ds : List Diagnostic) → length ds ≤ n → length (filled n ds) ≡ n
+length-filled n ds g = rw (length-append, length-listed ds, length-replicate) (omega arith)
+
+pub length-held : (n : ℕ) (ds : List Diagnostic) → length (held_list n ds) ≡ n
+length-held n ds = length-filled n (held n ds) (omega (arith, few-held n ds))
+
+filled-more : (n : ℕ) (d : Diagnostic) (ds : List Diagnostic) → length ds < n → slice_set (filled n ds) (length ds) (lent_of d) ≡ filled n (d ∷ ds)
+filled-more n d ds g =
+    let k = n - suc (length ds) in
+    let left : n - length ds ≡ suc k = omega arith in
+    (λ i. slice_set (listed ds ++ blanks (left i)) (sym (length-listed ds) i) (lent_of d))
+    ∙ set-append_seam (listed ds) blank (blanks k) (lent_of d)
+    ∙ sym (append_assoc (listed ds) (lent_of d ∷ []) (blanks k))
+
 -- while there is room, and after
-module _ (d : Diagnostic) (ds : List Diagnostic) where
-  all-kept : length ds ≤ diagnostic_limit → stored_diagnostics ds ≡ ds
-  all-kept h = let e : length ds - diagnostic_limit ≡ 0 = omega arith in rw e
+module _ (limit : ℕ) (d : Diagnostic) (ds : List Diagnostic) where
+  all-kept : length ds ≤ limit → drop (length ds - limit) ds ≡ ds
+  all-kept h = let e : length ds - limit ≡ 0 = omega arith in rw e
 
-  one-more : length ds < diagnostic_limit → stored_diagnostics (d ∷ ds) ≡ d ∷ ds
-  one-more h = let e : suc (length ds) - diagnostic_limit ≡ 0 = omega arith in rw e
+  one-more : length ds < limit → drop (suc (length ds) - limit) (d ∷ ds) ≡ d ∷ ds
+  one-more h = let e : suc (length ds) - limit ≡ 0 = omega arith in rw e
 
-  dropped : diagnostic_limit ≤ length ds → stored_diagnostics (d ∷ ds) ≡ stored_diagnostics ds
-  dropped h = let e : suc (length ds) - diagnostic_limit ≡ suc (length ds - diagnostic_limit) = omega arith in rw e
+  dropped : limit ≤ length ds → drop (suc (length ds) - limit) (d ∷ ds) ≡ drop (length ds - limit) ds
+  dropped h = let e : suc (length ds) - limit ≡ suc (length ds - limit) = omega arith in rw e
 
 module _ (l : List stores.Diagnostic) (n : ℕ) (x : stores.Diagnostic) where
   set-there : n < diagnostic_limit → n < length l → diagnosed l n x ≡ slice_set l n x
   set-there h g = rw (lt-ltb n diagnostic_limit h, lt-ltb n (length l) g)
 
-  set-nowhere : diagnostic_limit ≤ n → diagnosed l n x ≡ l
-  set-nowhere h = rw (le-ltb n diagnostic_limit h)
+  set-beyond : diagnostic_limit ≤ n → diagnosed l n x ≡ l
+  set-beyond h = rw (le-ltb n diagnostic_limit h)
 
-module _ (n : ℕ) (h : diagnostic_limit ≤ n) where
-  abbrev filled : List Diagnostic → List stores.Diagnostic
-  filled ds = listed ds ++ blanks (n - length ds)
-
-  length-filled : (ds : List Diagnostic) → length ds ≤ n → length (filled ds) ≡ n
-  length-filled ds g = rw (length-append, length-listed ds, length-replicate) (omega arith)
-
-  filled-more : (d : Diagnostic) (ds : List Diagnostic) → length ds < n → slice_set (filled ds) (length ds) (lent_of d) ≡ filled (d ∷ ds)
-  filled-more d ds g =
-      let k = n - suc (length ds) in
-      let left : n - length ds ≡ suc k = omega arith in
-      (λ i. slice_set (listed ds ++ blanks (left i)) (sym (length-listed ds) i) (lent_of d))
-      ∙ set-append_seam (listed ds) blank (blanks k) (lent_of d)
-      ∙ sym (append_assoc (listed ds) (lent_of d ∷ []) (blanks k))
-
-  list-filled : (ds : List Diagnostic) → list_after_all (blanks n) 0 ds ≡ filled (stored_diagnostics ds)
-  list-filled [] = rw sub-zero
-  list-filled (d ∷ ds) = (λ i. diagnosed (list-filled ds i) (count-stored ds i) (lent_of d)) ∙ ⊎_elim room full (cases_lt (length ds) diagnostic_limit)
+  set-nowhere : length l ≤ n → diagnosed l n x ≡ l
+  set-nowhere h = rw (le-ltb n (length l) h) (either (ltb n diagnostic_limit))
     where
-      room : length ds < diagnostic_limit → diagnosed (filled (stored_diagnostics ds)) (length (stored_diagnostics ds)) (lent_of d) ≡ filled (stored_diagnostics (d ∷ ds))
-      room g = rw (one-more d ds g, all-kept d ds (omega arith)) (set-there (filled ds) (length ds) (lent_of d) g (rw (length-filled ds (omega arith)) (omega arith)) ∙ filled-more d ds (omega arith))
+      either : (b : Bool) → (if b then l else l) ≡ l
+      either true = refl
+      either false = refl
 
-      full : diagnostic_limit ≤ length ds → diagnosed (filled (stored_diagnostics ds)) (length (stored_diagnostics ds)) (lent_of d) ≡ filled (stored_diagnostics (d ∷ ds))
-      full g = rw (dropped d ds g) (set-nowhere (filled (stored_diagnostics ds)) (length (stored_diagnostics ds)) (lent_of d) (rw (length-drop (length ds - diagnostic_limit) ds) (omega arith)))
+module _ (n : ℕ) where
+  -- one more diagnostic
+  pub diagnostic-stored : (d : Diagnostic) (ds : List Diagnostic) → diagnosed (held_list n ds) (length (stored_diagnostics ds)) (lent_of d) ≡ held_list n (d ∷ ds)
+  diagnostic-stored d ds = ⊎_elim room full (cases_lt (length ds) (held_limit n))
+    where
+      count : length (stored_diagnostics ds) ≡ length ds - (length ds - diagnostic_limit)
+      count = length-drop (length ds - diagnostic_limit) ds
+
+      stays : held_limit n ≤ length ds → diagnosed (held_list n ds) (length (stored_diagnostics ds)) (lent_of d) ≡ held_list n ds
+      stays g = ⊎_elim
+          (λ (few : n < diagnostic_limit). set-nowhere (held_list n ds) (length (stored_diagnostics ds)) (lent_of d) (omega (arith, g, few, count, length-held n ds)))
+          (λ (many : diagnostic_limit ≤ n). set-beyond (held_list n ds) (length (stored_diagnostics ds)) (lent_of d) (omega (arith, g, many, count)))
+          (cases_lt n diagnostic_limit)
+
+      room : length ds < held_limit n → diagnosed (held_list n ds) (length (stored_diagnostics ds)) (lent_of d) ≡ held_list n (d ∷ ds)
+      room g =
+          let below : length ds < diagnostic_limit = omega (arith, g) in
+          let within : length ds < n = omega (arith, g) in
+          rw (one-more (held_limit n) d ds g, all-kept (held_limit n) d ds (omega (arith, g)), all-kept diagnostic_limit d ds (omega (arith, below)))
+          (set-there (filled n ds) (length ds) (lent_of d) below (rw (length-filled n ds (omega (arith, within))) within) ∙ filled-more n d ds within)
+
+      full : held_limit n ≤ length ds → diagnosed (held_list n ds) (length (stored_diagnostics ds)) (lent_of d) ≡ held_list n (d ∷ ds)
+      full g = stays g ∙ ap (filled n) (sym (dropped (held_limit n) d ds g))
+
+  -- all of them
+  pub list-held : (ds : List Diagnostic) → list_after_all (blanks n) 0 ds ≡ held_list n ds
+  list-held [] = let e : 0 - held_limit n ≡ 0 = omega arith in rw (e, sub-zero)
+  list-held (d ∷ ds) = (λ i. diagnosed (list-held ds i) (count-stored ds i) (lent_of d)) ∙ diagnostic-stored d ds
 
   length-cells : (ds : List Diagnostic) → length (cells diagnostic_words ds) ≡ diagnostic_size * length ds
   length-cells [] = refl
   length-cells (d ∷ ds) = let e : length (diagnostic_words d) ≡ diagnostic_size = sym (ap length (six-of d)) in rw (length-append, length-cells ds, e) (omega arith)
 
   -- the words of the final list
-  pub list-words : (ds : List Diagnostic) → words (list_after_all (blanks n) 0 ds) ≡ padded (diagnostic_size * n) (diagnostic_cells ds)
-  list-words ds =
-      let kept = stored_diagnostics ds in
-      let left : diagnostic_size * (n - length kept) ≡ diagnostic_size * n - length (cells diagnostic_words kept) = rw (length-cells kept) (omega (arith, few-stored ds)) in
-      ap words (list-filled ds) ∙ words-append (listed kept) (blanks (n - length kept)) ∙ (λ i. words-listed kept i ++ words-blanks (n - length kept) i) ∙ ap (λ k. cells diagnostic_words kept ++ zeros k) left
+  pub held-words : (ds : List Diagnostic) → words (list_after_all (blanks n) 0 ds) ≡ held_cells n ds
+  held-words ds =
+      let kept = held n ds in
+      let left : diagnostic_size * (n - length kept) ≡ diagnostic_size * n - length (cells diagnostic_words kept) = rw (length-cells kept) (omega arith) in
+      ap words (list-held ds) ∙ words-append (listed kept) (blanks (n - length kept)) ∙ (λ i. words-listed kept i ++ words-blanks (n - length kept) i) ∙ ap (λ k. cells diagnostic_words kept ++ zeros k) left
+
+  -- where all find room, all stand there
+  pub held_all : (ds : List Diagnostic) → length (stored_diagnostics ds) ≤ n → held_cells n ds ≡ padded (diagnostic_size * n) (diagnostic_cells ds)
+  held_all ds h = ap (λ (k : ℕ). padded (diagnostic_size * n) (cells diagnostic_words (drop k ds))) same
+    where
+      same : length ds - held_limit n ≡ length ds - diagnostic_limit
+      same = omega (arith, h, length-drop (length ds - diagnostic_limit) ds)
+
+  pub list-words : diagnostic_limit ≤ n → (ds : List Diagnostic) → words (list_after_all (blanks n) 0 ds) ≡ padded (diagnostic_size * n) (diagnostic_cells ds)
+  list-words h ds = held-words ds ∙ held_all ds (omega (arith, h, few-stored ds))

@@ -1,24 +1,22 @@
 -- A field sets and diagnoses what its key says; the lines one after the other. Assumes nothing.
-use Rattle.std.specs.Prelude.{if◌then◌else◌, ◌++◌, Option, Some, None, is_some, MatchOption}
-use Rattle.std.specs.List.{list_any}
-use Rattle.std.proofs.lemmas.Iterator.{YieldsList}
-use Rattle.std.proofs.lemmas.Iterator.Consumers.{YieldsList-from_shown}
-use mathlib.Core.List.{append_assoc}
-use Rattle.std.proofs.Common.{◌≡◌, ℕ, zero, suc, ◌+◌, Bool, true, false, ◌&&◌, ◌||◌, cond, List, [], ◌∷◌, length, eqb, refl, sym, ap, ◌∙◌, subst, arith}
+use Rattle.std.specs.Prelude.{if◌then◌else◌}
+use Rattle.std.specs.List.{list_any, slice_split, onto_first}
+use Rattle.std.proofs.Common.{◌≡◌, ℕ, zero, suc, ◌+◌, ◌≤◌, Bool, true, false, ◌&&◌, ◌||◌, cond, List, [], ◌∷◌, length, length-drop, take, drop, eqb, refl, sym, ap, ◌∙◌, subst, arith}
+use native.Mathlib.Numerals.{one-add}
 use mathlib.Core.Bool.{false≢true}
 use Rattle.std.proofs.lemmas.Bool.{and_parts}
 use Rattle.std.proofs.lemmas.Bool.Decides.{nat_tests}
 use Rattle.std.proofs.Math.Option as math
 use Rattle.rules.specs.Text.{bytes, begins, is_text}
 use Rattle.rules.specs.Values.{clef_of, key_of, meter_of}
-use Rattle.rules.specs.Records
 use Rattle.rules.specs.Records.{◌or◌, given, is_empty, at_line, at_field, Diagnostic}
 use Rattle.rules.specs.Diagnostics.{diagnostic, clef_diagnosed, key_diagnosed, meter_diagnosed}
-use Rattle.rules.specs.Fields.{Line, Field, Fields, field_of, is_field, has_field, field_next, field_diagnosed, line_diagnosed, part_value, no_fields, lines_after, lines_of, line_at, line_size, fields_after, lines_diagnosed}
+use Rattle.rules.specs.Fields.{Line, Field, Fields, field_of, has_field, in_field_form, field_next, field_diagnosed, line_diagnosed, part_value, no_fields, lines_after, lines_of, line_at, line_size, fields_after, lines_diagnosed}
 use Rattle.scan.specs.declared.lines.Lines.{Lines}
 use Rattle.scan.specs.declared.lines.TextLine.{TextLine}
-use Rattle.scan.specs.declared.lines.Field as scan_field
-use Rattle.scan.specs.Lines.{lines_left, line_of, field_in, IsFirstLine, GivesLine, ReadsField}
+use Rattle.scan.specs.Lines.{lines_left, line_of, IsFirstLine}
+use Rattle.scan.specs.FieldLine.{is_field_line}
+use Rattle.scan.proofs.LineLaws.{line_cut}
 use Rattle.stores.specs.declared.diagnostic.Diagnostics.{Diagnostics}
 use Rattle.stores.specs.Diagnostics.{list_after_all, count_after_all}
 use Rattle.scan.specs.Keys.{field_key_of}
@@ -150,64 +148,63 @@ pub record Taken (text : List ℕ) (lines : Lines) (fields : Fields) (old : Diag
   pub list : new.list.now ≡ list_after_all old.list.now old.count (lines_diagnosed before)
   pub count : new.count ≡ count_after_all old.count (lines_diagnosed before)
 
--- those of `before` stand behind
-lines_apart : (skip n o : ℕ) (xs : List ℕ) (before : List Line) → lines_after skip n o xs before ≡ lines_after skip n o xs [] ++ before
+-- ---- the lines, cut at byte 10
+
+abbrev ends_line : ℕ → Bool
+ends_line b = eqb b 10
+
+-- the first part of what is cut is the first line
+first_part : (xs : List ℕ) → slice_split ends_line xs ≡ take (line_size xs) xs ∷ drop 1 (slice_split ends_line xs)
+first_part [] = refl
+first_part (x ∷ xs) = by (ends_line x) refl (first_part xs)
+  where
+    by : (b : Bool) → ends_line x ≡ b → slice_split ends_line xs ≡ take (line_size xs) xs ∷ drop 1 (slice_split ends_line xs)
+        → slice_split ends_line (x ∷ xs) ≡ take (line_size (x ∷ xs)) (x ∷ xs) ∷ drop 1 (slice_split ends_line (x ∷ xs))
+    by true e h = rw e
+    by false e h = rw (e, one-add) (ap (onto_first x) h ∙ ap (λ ls. (x ∷ take (line_size xs) xs) ∷ ls) (sym (ap (λ ls. drop 1 (onto_first x ls)) h)))
+
+-- the others are what stands behind its end, cut
+other_parts : (xs : List ℕ) → list_any is_field_line (drop 1 (slice_split ends_line xs)) ≡ list_any is_field_line (slice_split ends_line (drop (line_size xs + 1) xs))
+other_parts [] = refl
+other_parts (x ∷ xs) = by (ends_line x) refl (other_parts xs)
+  where
+    by : (b : Bool) → ends_line x ≡ b → list_any is_field_line (drop 1 (slice_split ends_line xs)) ≡ list_any is_field_line (slice_split ends_line (drop (line_size xs + 1) xs))
+        → list_any is_field_line (drop 1 (slice_split ends_line (x ∷ xs))) ≡ list_any is_field_line (slice_split ends_line (drop (line_size (x ∷ xs) + 1) (x ∷ xs)))
+    by true e h = rw e
+    by false e h = let behind : suc (line_size xs) + 1 ≡ suc (line_size xs + 1) = omega arith in rw (e, one-add, behind) (ap (λ ls. list_any is_field_line (drop 1 (onto_first x ls))) (first_part xs) ∙ h)
+
+any_first : (xs : List ℕ) → list_any is_field_line (slice_split ends_line xs) ≡ (is_field_line (take (line_size xs) xs) || list_any is_field_line (slice_split ends_line (drop (line_size xs + 1) xs)))
+any_first xs = ap (list_any is_field_line) (first_part xs) ∙ ap (λ b. is_field_line (take (line_size xs) xs) || b) (other_parts xs)
+
+swapped : (a b c : Bool) → (a || (b || c)) ≡ ((b || a) || c)
+swapped true true c = refl
+swapped true false c = refl
+swapped false true c = refl
+swapped false false c = refl
+
+-- at most k bytes; wherever the text stands, behind the lines of `before`
+any_field : (k n o : ℕ) (xs : List ℕ) (before : List Line) → length xs ≤ k → has_field (lines_after 0 n o xs before) ≡ (list_any is_field_line (slice_split ends_line xs) || has_field before)
 unfolding lines_after
-lines_apart skip n o [] before = refl
-lines_apart zero n o (x ∷ xs) before =
+any_field k n o [] before h = refl
+any_field zero n o (x ∷ xs) before h = absurd (omega (arith, h))
+any_field (suc k) n o (x ∷ xs) before h =
     let l = line_at n o (x ∷ xs) in
-    let k = line_size (x ∷ xs) in
-    lines_apart k (n + 1) (o + 1) xs (l ∷ before)
-    ∙ sym (ap (λ m. m ++ before) (lines_apart k (n + 1) (o + 1) xs (l ∷ [])) ∙ append_assoc (lines_after k (n + 1) (o + 1) xs []) (l ∷ []) before)
-lines_apart (suc skip) n o (x ∷ xs) before = lines_apart skip n (o + 1) xs before
+    let size = line_size (x ∷ xs) in
+    let left = drop (size + 1) (x ∷ xs) in
+    let less : length left ≤ k = omega (arith, h, length-drop (size + 1) (x ∷ xs)) in
+    let first = is_field_line (take size (x ∷ xs)) in
+    ap has_field (line_cut n o (x ∷ xs) before (omega arith))
+    ∙ any_field k (n + 1) (o + (size + 1)) left (l ∷ before) less
+    ∙ swapped (list_any is_field_line (slice_split ends_line left)) first (has_field before)
+    ∙ sym (ap (λ b. b || has_field before) (any_first (x ∷ xs)))
 
--- the lines in the other order
-abbrev pub turned : List Line → List Line
-turned [] = []
-turned (l ∷ ls) = turned ls ++ l ∷ []
+or_false : (b : Bool) → (b || false) ≡ b
+or_false true = refl
+or_false false = refl
 
-turned_last : (ls : List Line) (l : Line) → turned (ls ++ l ∷ []) ≡ l ∷ turned ls
-turned_last [] l = refl
-turned_last (x ∷ ls) l = ap (λ m. m ++ x ∷ []) (turned_last ls l)
-
--- the lines that are left, from the first on
-abbrev first_on : Lines → List Line
-first_on s = turned (lines_left s [])
-
-first_none : (s t : Lines) → GivesLine s None t → length (first_on s) ≡ 0
-first_none s t g = ap (λ l. length (turned l)) (g [])
-
-first_next : (s : Lines) (line : TextLine) (t : Lines) → GivesLine s (Some line) t → first_on s ≡ line_of line ∷ first_on t
-first_next s line t g = ap turned (g.left [] ∙ lines_apart 0 t.number.0 t.rest.start.0 t.rest.bytes.now (line_of line ∷ [])) ∙ turned_last (lines_left t []) (line_of line)
-
-pub lines_yielded : (s : Lines) → YieldsList GivesLine line_of s (first_on s)
-lines_yielded s = YieldsList-from_shown GivesLine line_of first_on first_none first_next s
-
--- whether a line is a field
-abbrev pub test : Line → Bool
-test l = is_field l.content.bytes
-
-pub field_told : (l : Line) (r : Option scan_field.Field) → ReadsField l r → is_some r ≡ test l
-field_told l r e = by r (is_field l.content.bytes) _ e
-  where
-    by : (r : Option scan_field.Field) (b : Bool) (f : Field) → MatchOption r ((if b then math.some f else math.none) ≡ math.none) (λ g. (if b then math.some f else math.none) ≡ math.some (field_in g)) → is_some r ≡ b
-    by None true f q = let h : ◌≡◌ {A = Bool} true false = ap Records.is_some q in absurd (false≢true (sym h))
-    by None false f q = refl
-    by (Some g) true f q = refl
-    by (Some g) false f q = let h : ◌≡◌ {A = Bool} false true = ap Records.is_some q in absurd (false≢true h)
-
-any_behind : (ls : List Line) (l : Line) → list_any test (ls ++ l ∷ []) ≡ (test l || list_any test ls)
-any_behind [] l = refl
-any_behind (x ∷ ls) l = ap (λ b. test x || b) (any_behind ls l) ∙ swapped (test x) (test l) (list_any test ls)
-  where
-    swapped : (a b c : Bool) → (a || (b || c)) ≡ (b || (a || c))
-    swapped true true c = refl
-    swapped true false c = refl
-    swapped false b c = refl
-
-pub any_turned : (ls : List Line) → list_any test (turned ls) ≡ has_field ls
-any_turned [] = refl
-any_turned (l ∷ ls) = any_behind (turned ls) l ∙ ap (λ b. test l || b) (any_turned ls)
+-- a line of a text is a field, if a part of it is one
+pub field_form : (text : List ℕ) → list_any is_field_line (slice_split (λ b. eqb b 10) text) ≡ in_field_form text
+field_form text = sym (any_field (length text) 1 0 text [] (omega arith) ∙ or_false (list_any is_field_line (slice_split ends_line text)))
 
 module _ {text : List ℕ} {lines : Lines} where
   pub none_taken : {s : Fields} {d : Diagnostics} → s ≡ no_fields → lines_left lines [] ≡ lines_of text → Taken text lines s d d

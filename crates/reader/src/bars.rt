@@ -1,6 +1,7 @@
 // Barlines: the open bar is stored, and the next one begins.
-ghost use Rattle.std.specs.Prelude.{◌≡◌, ◌≤◌, Ok, Err, MatchResult, OnOk, List, [], ℤ};
+ghost use Rattle.std.specs.Prelude.{◌≡◌, ◌<◌, ◌≤◌, Ok, Err, MatchResult, OnOk, List, [], ℤ};
 ghost use Rattle.tokens.specs.Steps.{edge_number};
+ghost use Rattle.stores.specs.Cells.{word_limit};
 ghost use Rattle.stores.specs.Bars.{numbers_of};
 ghost use Rattle.reader.specs.Reader.{view_of, SameBuffers};
 ghost use Rattle.view.specs.Ready.{Sound};
@@ -17,7 +18,8 @@ use view::refusal::Refusal;
 impl<'s, 't, 'n, 'b, 'l, 'd> Reader<'s, 't, 'n, 'b, 'l, 'd> {
     // The open bar; the first one has a clef and a key, treble and 0 where none is set.
     fn finished(&self, right: Edge) -> Bar
-        requires { Sound (view_of self.now []) }
+        requires first { self.now.state.first ≤ self.now.notes.now.count }
+        requires fits { self.now.notes.now.count < word_limit }
         ensures { numbers_of result ≡ finished (edge_number right) (view_of self.now []) }
     {
         let attributes = self.state.attributes;
@@ -40,10 +42,11 @@ impl<'s, 't, 'n, 'b, 'l, 'd> Reader<'s, 't, 'n, 'b, 'l, 'd> {
 
     /// Stores the open bar, unless it is empty.
     pub fn store_bar(&mut self, right: Edge) -> Result<(), Refusal>
-        requires { Sound (view_of self.old []) }
+        requires { self.old.notes.now.count < word_limit }
         ensures same { SameBuffers self.old self.new }
         ensures notes { self.new.notes.now ≡ self.old.notes.now }
-        ensures few { OnOk result (self.new.bars.now.count ≤ self.new.notes.now.count) }
+        ensures few { OnOk result (Sound (view_of self.old []) →
+            self.new.bars.now.count ≤ self.new.notes.now.count) }
         ensures stored { (figure : List ℤ) → MatchResult result
             (λ _. stored_bar (edge_number right) (view_of self.old figure)
             ≡ Ok (view_of self.new figure))

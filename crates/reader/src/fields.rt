@@ -10,7 +10,7 @@ ghost use Rattle.tokens.specs.Steps.{edge_number};
 ghost use Rattle.reader.specs.Fields.{fields_in, field_set, field_remarks, line_next};
 
 use super::state::Attributes;
-use scan::lines::{FieldKey, Line, Lines, Part, TextLine};
+use scan::lines::{FieldKey, Line, Lines, Part, TextLine, is_field_line};
 use stores::diagnostic::{At, Diagnostics, Remark, Value};
 use tokens::attributes::{ClefValue, Key, Meter};
 use tokens::rhythm::Edge;
@@ -117,16 +117,16 @@ impl<'t> Fields<'t> {
     }
 }
 
-// That the text isn't too long is asked, here and below: it is the caller's slice, checked at the
-// entry.
-
 /// Whether any line of the text is a field.
-fn in_field_form(text: &[u8]) -> bool
-    requires { length text.now ≤ text_limit }
+// By bytes: a text of any length has the answer, and `Lines` has offsets below 2 ^ 31.
+pub fn in_field_form(text: &[u8]) -> bool
     ensures { result ≡ in_field_form text.now }
 {
-    Lines::new(text).any(|line| line.field().is_some())
+    text.split(|byte| *byte == b'\n').any(is_field_line)
 }
+
+// That the text isn't too long is asked, here and below: it is the caller's slice, checked at the
+// entry.
 
 /// What the lines of a text in field form set, their diagnostics stored.
 #[tactic(auto, using(crate::proofs::FieldLaws::line_laws))]

@@ -1,11 +1,12 @@
 // Letters and rests.
-ghost use Rattle.std.specs.Prelude.{◌≡◌, ◌<◌, if◌then◌else◌, Ok, Err, MatchResult, OnOk, List, [], ℤ};
+ghost use Rattle.std.specs.Prelude.{◌≡◌, ◌+◌, ◌<◌, ◌≤◌, if◌then◌else◌, Ok, Err, MatchResult, OnOk, List, [], ℤ};
+ghost use Rattle.rules.specs.Limits.{note_limit};
 ghost use Rattle.rules.specs.Rules.{heading, kind_of, length_of};
 ghost use Rattle.tokens.specs.Numbers.{number_in};
 ghost use Rattle.tokens.specs.Spans.{item_of};
 ghost use Rattle.tokens.specs.Steps.{step_number};
 ghost use Rattle.tokens.specs.Rhythm.{length_in, next_length, all_lengths, lengths_left, lengths_after};
-ghost use Rattle.stores.specs.Cells.{word_limit};
+ghost use Rattle.stores.specs.Cells.{word_limit, BlankRecord};
 ghost use Rattle.stores.specs.Notes.{pitch_of, heading_of};
 ghost use Rattle.reader.specs.Parts.{grace_in};
 ghost use Rattle.reader.specs.Reader.{view_of, SameBuffers};
@@ -17,7 +18,7 @@ ghost use Rattle.view.specs.Steps.{after_letter, after_rest, after_whole_bar, af
 use super::remark::after_first;
 use super::state::Voice;
 use super::walk::Reader;
-use stores::cells::NoRoom;
+use stores::cells::{NOTE, NoRoom};
 use stores::diagnostic::{At, Remark};
 use stores::note::{Heading, NoteKind, Pitch};
 use tokens::cut::{Place, Span};
@@ -125,7 +126,9 @@ impl<'s, 't, 'n, 'b, 'l, 'd> Reader<'s, 't, 'n, 'b, 'l, 'd> {
 
     /// `-`: a rest.
     pub fn rest(&mut self, span: Span<'d>) -> Result<(), Refusal>
-        requires { Sound (view_of self.old []) }
+        requires few { self.old.notes.now.count ≤ note_limit }
+        requires bars { self.old.bars.now.count + 1 < word_limit }
+        requires blank { BlankRecord NOTE self.old.notes.now.cells.now self.old.notes.now.count }
         ensures same { SameBuffers self.old self.new }
         ensures rest { (figure : List ℤ) → MatchResult result
             (λ _. after_rest span.entry.place.0 (view_of self.old figure)
@@ -148,10 +151,12 @@ impl<'s, 't, 'n, 'b, 'l, 'd> Reader<'s, 't, 'n, 'b, 'l, 'd> {
 
     // A whole-bar rest, which takes no length and leaves a tie waiting.
     fn whole_bar(&mut self, place: Place) -> Result<(), Refusal>
-        requires sound { Sound (view_of self.old []) }
+        requires few { self.old.notes.now.count ≤ note_limit }
+        requires bars { self.old.bars.now.count + 1 < word_limit }
+        requires blank { BlankRecord NOTE self.old.notes.now.cells.now self.old.notes.now.count }
         requires fits { place.0 < word_limit }
         ensures same { SameBuffers self.old self.new }
-        ensures sound { OnOk result (Sound (view_of self.new [])) }
+        ensures sound { OnOk result (Sound (view_of self.old []) → Sound (view_of self.new [])) }
         ensures whole_bar { (figure : List ℤ) → MatchResult result
             (λ _. after_whole_bar place.0 (view_of self.old figure) ≡ Ok (view_of self.new figure))
             (λ e. after_whole_bar place.0 (view_of self.old figure) ≡ Err e) }

@@ -1,9 +1,9 @@
 // The open bar: its number and notes, room for more, and where a group, beam or figure starts.
 ghost use Rattle.std.specs.Prelude.{◌≡◌, ◌+◌, ◌≤◌, ◌<◌, [], MatchResult};
 ghost use Rattle.rules.specs.Limits.{note_limit};
+ghost use Rattle.stores.specs.Cells.{word_limit};
 ghost use Rattle.reader.specs.Parts.{start_of};
 ghost use Rattle.reader.specs.Reader.{view_of};
-ghost use Rattle.view.specs.Ready.{Sound};
 ghost use Rattle.view.specs.declared.refusal.Refusal.TheVariants.{TooManyNotes};
 ghost use Rattle.view.specs.View.{has_note, ends_in_note, open_length, start_here, in_its_bar};
 
@@ -34,7 +34,7 @@ impl<'s, 't, 'n, 'b, 'l, 'd> Reader<'s, 't, 'n, 'b, 'l, 'd> {
 
     /// How many notes the open bar has.
     pub fn open_length(&self) -> usize
-        requires { Sound (view_of self.now []) }
+        requires { self.now.state.first ≤ self.now.notes.now.count }
         ensures { result ≡ open_length (view_of self.now []) }
     {
         self.notes.count - self.state.first
@@ -42,7 +42,7 @@ impl<'s, 't, 'n, 'b, 'l, 'd> Reader<'s, 't, 'n, 'b, 'l, 'd> {
 
     /// The number of the open bar, from 1.
     pub fn open_bar(&self) -> u32
-        requires { Sound (view_of self.now []) }
+        requires { self.now.bars.now.count + 1 < word_limit }
         ensures { result ≡ self.now.bars.now.count + 1 }
     {
         self.bars.count as u32 + 1
@@ -50,7 +50,7 @@ impl<'s, 't, 'n, 'b, 'l, 'd> Reader<'s, 't, 'n, 'b, 'l, 'd> {
 
     /// So many notes more are refused where a reading would have too many.
     pub fn room_for(&self, count: usize) -> Result<(), Refusal>
-        requires { Sound (view_of self.now []) }
+        requires { self.now.notes.now.count ≤ note_limit }
         ensures { MatchResult result
             (λ _. self.now.notes.now.count + count ≤ note_limit)
             (λ e. (note_limit < self.now.notes.now.count + count) × (e ≡ TooManyNotes)) }
@@ -63,7 +63,7 @@ impl<'s, 't, 'n, 'b, 'l, 'd> Reader<'s, 't, 'n, 'b, 'l, 'd> {
 
     /// A start here.
     pub fn start_here(&self) -> Start
-        requires { Sound (view_of self.now []) }
+        requires { self.now.state.first ≤ self.now.notes.now.count }
         ensures { start_of result ≡ start_here (view_of self.now []) }
     {
         Start {

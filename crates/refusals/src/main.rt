@@ -78,11 +78,7 @@ fn call_lent(lent: Lent, text: &[u8]) -> Told {
 /// The case as the table has it, what came, whether the cells are as they must be, and whether all
 /// is as the table says.
 fn print_row<W: Write>(out: &mut W, case: Case<'_>, told: Told) -> io::Result<()> {
-    out.write_all(case.name)?;
-    out.write_all(b"|")?;
-    out.write_all(case.lent)?;
-    out.write_all(b"|")?;
-    out.write_all(case.text)?;
+    out.write_all(case.shown)?;
     let Reading {
         number,
         place,
@@ -102,18 +98,15 @@ fn print_row<W: Write>(out: &mut W, case: Case<'_>, told: Told) -> io::Result<()
     )
 }
 
-/// A line of the table: a heading, which is empty or has a `#` before it, or a case.
+/// A line of the table: a heading, which is empty or has a `#` or a byte 0 before it, or a case.
 fn run_line<W: Write>(out: &mut W, alloc: Global, line: &[u8]) -> io::Result<()> {
-    match Case::new(line) {
-        Some(case) if !matches!(line, [b'#', ..]) => {
-            let text = case.text(alloc)?;
-            print_row(out, case, call_lent(case.lent(), text.as_slice()))
-        }
-        _ => {
-            out.write_all(line)?;
-            out.write_all(b"\n")
-        }
+    if matches!(line, [] | [b'#' | 0, ..]) {
+        out.write_all(line)?;
+        return out.write_all(b"\n");
     }
+    let case = Case::new(line);
+    let text = case.text(alloc)?;
+    print_row(out, case, call_lent(case.lent(), text.as_slice()))
 }
 
 fn main(rt: HostRuntime) -> io::Result<()> {

@@ -22,7 +22,8 @@ impl<T: fmt::Display> fmt::Display for Columns<T> {
         let value = &self.0;
         let mut width = Width(0);
         write!(width, "{value}")?;
-        write!(f, "{value}")?;
-        f.write_repeated(" ", self.1.saturating_sub(width.0))
+        let blank = "";
+        let columns = self.1.saturating_sub(width.0);
+        write!(f, "{value}{blank:columns$}")
     }
 }

@@ -14,25 +14,51 @@ fn char_of(character: &[u8]) -> Option<char> {
     }
 }
 
-/// What is shown for a character: a space for a blank, `?` for a control character or a byte that
-/// is part of none.
-fn shown(character: &[u8]) -> char {
+/// What stands for a character that is not shown as it is: a space for a blank, `?` for a control
+/// character or a byte that is part of none.
+fn stand_in(character: &[u8]) -> Option<char> {
     match char_of(character) {
-        Some(c) if c.is_whitespace() => ' ',
-        Some(c) if !c.is_control() => c,
-        _ => '?',
+        Some(c) if c.is_whitespace() => Some(' '),
+        Some(c) if !c.is_control() => None,
+        _ => Some('?'),
     }
 }
 
+/// The characters that a text begins with and that are shown as they are.
+fn plain(text: &[u8]) -> &[u8] {
+    let mut rest = text;
+    for character in Characters::new(text) {
+        if stand_in(character).is_some() {
+            break;
+        }
+        rest = rest.get(character.len()..).unwrap_or(b"");
+    }
+    text.get(..text.len().saturating_sub(rest.len()))
+        .unwrap_or(text)
+}
+
 /// A text, shown character by character: a space for a blank, `?` for a control character or a byte
-/// that is part of none.
+/// that is part of none. Characters that are shown as they are go out together.
 #[derive(Clone, Copy)]
 pub struct Text<'t>(pub &'t [u8]);
 
 impl<'t> fmt::Display for Text<'t> {
     fn fmt<W: fmt::Write>(&self, f: &mut fmt::Formatter<W>) -> fmt::Result {
-        for character in Characters::new(self.0) {
-            f.write_char(shown(character))?;
+        let mut rest = self.0;
+        // Each turn takes a character or more.
+        for _ in self.0 {
+            let shown = plain(rest);
+            if let Ok(text) = std::str::from_utf8(shown) {
+                f.write_str(text)?;
+            }
+            rest = rest.get(shown.len()..).unwrap_or(b"");
+            let Some(character) = Characters::new(rest).next() else {
+                break;
+            };
+            if let Some(c) = stand_in(character) {
+                f.write_char(c)?;
+            }
+            rest = rest.get(character.len()..).unwrap_or(b"");
         }
         Ok(())
     }
@@ -52,6 +78,8 @@ impl<'t> fmt::Display for Excerpt<'t> {
         if shown.len() < self.0.len() {
             f.write_str("...")?;
         }
-        f.write_repeated(" ", width.saturating_sub(count_characters(self.0)))
+        let blank = "";
+        let columns = width.saturating_sub(count_characters(self.0));
+        write!(f, "{blank:columns$}")
     }
 }

@@ -1,15 +1,16 @@
 -- Runs and beginnings in std's words are those in the rules' words.
-use Rattle.std.proofs.Common.{◌≡◌, ◌+◌, ℕ, Bool, true, false, List, [], ◌∷◌, length, arith, cond}
-use Rattle.std.specs.Prelude.{◌&&◌, not, eqb, refl, count_by, if◌then◌else◌}
+use Rattle.std.proofs.Common.{◌≡◌, ◌+◌, ◌-◌, ◌≤◌, ℕ, Bool, true, false, List, [], ◌∷◌, length, take, drop, arith, cond, length-drop}
+use Rattle.std.specs.Prelude.{◌&&◌, eqb, refl}
 use Rattle.std.specs.List.{prefix_len, starts_with}
 use Rattle.std.proofs.lemmas.Bool.Decides.{nat_tests}
 use mathlib.Core.Path.{ap, sym, ◌∙◌}
 use mathlib.Core.Bool.{and-false}
 use lib.Dec.{eqb-zero-suc, eqb-suc-zero, eqb-suc-suc}
-use Rattle.std.proofs.lemmas.List.Recursion.{is_count_by}
 use Rattle.std.specs.Cmp.Lexicographic.{pointwise}
-use Rattle.rules.specs.Text.{run_length, begins, is_text}
-use Rattle.rules.specs.Characters.{characters_in, continues}
+use lib.Seq.{drop-drop}
+use Rattle.rules.specs.Text.{run_length, every, begins, is_text}
+use Rattle.rules.proofs.Runs.{run-within, run-over}
+use Rattle.scan.proofs.Trims.{part_to_end}
 
 pub prefix_len_is : (p : ℕ → Bool) (xs : List ℕ) → prefix_len p xs ≡ run_length p xs
 prefix_len_is p [] = refl
@@ -35,19 +36,20 @@ equal_is (k ∷ ks) (x ∷ xs) =
     ap (λ (t : Bool). eqb x k && t) (equal_is ks xs) ∙ swapped (eqb x k) (eqb (length xs) (length ks)) (begins ks xs)
     ∙ sym (ap (λ (t : Bool). t && (eqb x k && begins ks xs)) (eqb-suc-suc (length xs) (length ks)))
 
-pub count_by_is : (xs : List ℕ) → characters_in xs ≡ count_by (λ b. not (continues b)) xs
-unfolding characters_in
-count_by_is xs = is_count_by characters_in (λ b. not (continues b)) nil cons xs
-  where
-    nil : characters_in [] ≡ 0
-    nil = refl
+-- ---- long runs
 
-    cons : (b : ℕ) (bs : List ℕ) → characters_in (b ∷ bs) ≡ cond (not (continues b)) (1 + characters_in bs) (characters_in bs)
-    cons b bs = by (continues b)
-      where
-        by : (t : Bool) → (if t then 0 else 1) + characters_in bs ≡ cond (not t) (1 + characters_in bs) (characters_in bs)
-        by true = omega arith
-        by false = refl
+-- a chunk of the class lies within the run
+pub run_chunk : (p : ℕ → Bool) (xs : List ℕ) (i n : ℕ) → i ≤ length xs → n ≤ length xs - i → every p (take (i + n - i) (drop i xs)) ≡ true → run_length p xs ≡ i + run_length p (drop i xs) → run_length p xs ≡ i + n + run_length p (drop (i + n) xs)
+run_chunk p xs i n w h e r =
+    let size : n ≡ i + n - i = omega arith in
+    let over : run_length p (drop i xs) ≡ n + run_length p (drop (i + n) xs) = run-over p n (drop i xs) (omega (arith, length-drop i xs, h)) (ap (λ (m : ℕ). every p (take m (drop i xs))) size ∙ e) ∙ ap (λ (ys : List ℕ). n + run_length p ys) (drop-drop n i xs) in
+    omega (arith, r, over)
 
-pub count_from_by : (n : ℕ) (xs : List ℕ) → n ≡ count_by (λ b. not (continues b)) xs → n ≡ characters_in xs
-count_from_by n xs e = e ∙ sym (count_by_is xs)
+-- the rest of the run stands in the part to the end
+pub run_rest : (p : ℕ → Bool) (xs : List ℕ) (i : ℕ) → run_length p xs ≡ i + run_length p (drop i xs) → i + prefix_len p (take (length xs - i) (drop i xs)) ≡ run_length p xs
+run_rest p xs i r = let e : prefix_len p (take (length xs - i) (drop i xs)) ≡ run_length p (drop i xs) = prefix_len_is p _ ∙ ap (run_length p) (part_to_end xs i) in omega (arith, e, r)
+
+pub run_bound : (p : ℕ → Bool) (xs : List ℕ) → run_length p xs ≤ length xs
+run_bound p xs = run-within p xs
+
+pub ruleset long_runs = (run_chunk, run_rest, run_bound)

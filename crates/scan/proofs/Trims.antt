@@ -7,7 +7,7 @@ use mathlib.Core.Bool.{and-false, false≢true}
 use lib.Dec.{eqb-zero-suc, eqb-suc-suc}
 use lib.ListN.{drop_of_length-le}
 use lib.Seq.{take-add, take-nil, take_all}
-use Rattle.rules.specs.Characters.{continues, in_blank, blanks_size, all_blank, trim_end}
+use Rattle.rules.specs.Characters.{continues, character_size, is_blank, in_blank, blanks_size, all_blank, non_blanks_size, trim_end}
 
 -- the part from an offset to the end
 pub part_to_end : (xs : List ℕ) (a : ℕ) → take (length xs - a) (drop a xs) ≡ drop a xs
@@ -37,6 +37,28 @@ blanks_all (x ∷ xs) = at (in_blank (x ∷ xs)) (blanks_all xs)
     at : (t : Bool) → eqb (blanks_size xs) (length xs) ≡ all_blank xs → eqb (if t then 1 + blanks_size xs else 0) (suc (length xs)) ≡ (t && all_blank xs)
     at true h = rw (one-add, eqb-suc-suc) h
     at false h = eqb-zero-suc (length xs)
+
+-- ---- non-blanks
+
+pub non_blanks_more : (n i : ℕ) (b : ℕ) (bs : List ℕ) → i < n → is_blank (b ∷ bs) ≡ false
+    → non_blanks_size (n - i) (b ∷ bs) ≡ character_size (b ∷ bs) + non_blanks_size (n - (i + 1)) (drop (character_size (b ∷ bs)) (b ∷ bs))
+unfolding non_blanks_size
+non_blanks_more n i b bs h f = let e : n - i ≡ suc (n - (i + 1)) = omega (arith, h) in rw (e, f) refl
+
+pub non_blanks_stop : (n : ℕ) (b : ℕ) (bs : List ℕ) → is_blank (b ∷ bs) ≡ true → non_blanks_size n (b ∷ bs) ≡ 0
+unfolding non_blanks_size
+non_blanks_stop zero b bs t = refl
+non_blanks_stop (suc n) b bs t = rw t refl
+
+pub non_blanks_end : (n : ℕ) (xs : List ℕ) → length xs ≡ 0 → non_blanks_size n xs ≡ 0
+unfolding non_blanks_size
+non_blanks_end zero xs h = refl
+non_blanks_end (suc n) [] h = refl
+non_blanks_end (suc n) (x ∷ xs) h = absurd (omega (arith, h))
+
+pub non_blanks_all : (n i : ℕ) (xs : List ℕ) → n ≤ i → non_blanks_size (n - i) xs ≡ 0
+unfolding non_blanks_size
+non_blanks_all n i xs h = let e : n - i ≡ 0 = omega (arith, h) in rw e refl
 
 -- ---- trimming from the end
 

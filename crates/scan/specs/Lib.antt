@@ -3,3 +3,4 @@ pub mod Classes
 pub mod Parts
 pub mod Lines
 pub mod Keys
+pub mod FieldLine

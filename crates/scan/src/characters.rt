@@ -26,11 +26,19 @@ fn is_continuation(byte: u8) -> bool
 }
 
 /// How many characters these bytes are.
+#[tactic(auto, unfolding(rules::specs::Characters::characters_in))]
 pub fn count_characters(part: &[u8]) -> usize
     ensures count { result ≡ characters_in part.now }
     ensures within { result ≤ length part.now }
 {
-    part.iter().filter(|byte| !is_continuation(**byte)).count()
+    let mut count = 0;
+    // A loop: std's `filter` and `count` are not compiled to one over vectors.
+    for byte in part {
+        if !is_continuation(*byte) {
+            count += 1;
+        }
+    }
+    count
 }
 
 // A first byte and the rest, here and below: a slice that isn't empty, without a `requires`.
@@ -86,7 +94,7 @@ fn is_white_space(code: u32) -> bool
 }
 
 /// Whether a byte is a blank below 128.
-fn is_low_blank(byte: u8) -> bool
+pub fn is_low_blank(byte: u8) -> bool
     ensures { result ≡ is_low_blank byte }
 {
     matches!(byte, 9..=13 | 32)
@@ -115,7 +123,7 @@ fn in_blank(rest: &[u8]) -> bool
 }
 
 /// The size of the blanks at the start, in bytes.
-pub(crate) fn blanks_size(rest: &[u8]) -> usize
+pub fn blanks_size(rest: &[u8]) -> usize
     ensures size { result ≡ blanks_size rest.now }
     ensures within { result ≤ length rest.now }
 {
@@ -136,18 +144,22 @@ pub fn is_all_blank(text: &[u8]) -> bool
 }
 
 /// The size of the non-blanks at the start, in bytes, `most` characters at most.
-#[tactic(auto, unfolding(rules::specs::Characters::non_blanks_size))]
 pub fn non_blanks_size(rest: &[u8], most: usize) -> usize
     ensures size { result ≡ non_blanks_size most rest.now }
     ensures within { result ≤ length rest.now }
 {
-    match rest {
-        [first, more @ ..] if 0 < most && !is_blank(*first, more) => {
-            let size = character_size(*first, more);
-            size + non_blanks_size(&rest[size..], most - 1)
+    let mut left = rest;
+    for _ in 0..most {
+        let Some((first, more)) = left.split_first() else {
+            break;
+        };
+        if is_blank(*first, more) {
+            break;
         }
-        _ => 0,
+        let size = character_size(*first, more);
+        left = &left[size..];
     }
+    rest.len() - left.len()
 }
 
 /// The part without the blanks at its end.

@@ -1,7 +1,9 @@
 // Parts of a text, its lines, and their fields.
-ghost use Rattle.std.specs.Prelude.{◌≡◌, ◌+◌, ◌<◌, ◌≤◌, ◌^◌, [], length};
+ghost use Rattle.std.specs.Prelude.{◌≡◌, ◌+◌, ◌<◌, ◌≤◌, ◌^◌, [], length, is_some, IfSome};
 ghost use Rattle.rules.specs.Text.{without, end_of};
 ghost use Rattle.rules.specs.Characters.{trim};
+ghost use Rattle.rules.specs.Fields.{is_field, key_size};
+ghost use Rattle.scan.specs.FieldLine.{is_field_line};
 
 use crate::characters::{blanks_size, trim_end};
 use crate::classes::{Class, is_text, starts_with};
@@ -130,6 +132,36 @@ impl<'t> Iterator for Lines<'t> {
     }
 }
 
+// Where the key of a field ends: letters behind `@`, before `:`.
+fn key_end(bytes: &[u8]) -> Option<usize>
+    ensures field { is_some result ≡ is_field bytes.now }
+    ensures key { IfSome result (λ end. end ≡ 1 + key_size bytes.now) }
+    ensures within { IfSome result (λ end. end < length bytes.now) }
+{
+    if !starts_with(bytes, b"@") {
+        return None;
+    }
+    let end = 1 + Class::Letters.run(&bytes[1..]);
+    if end == 1 || end == bytes.len() || bytes[end] != b':' {
+        return None;
+    }
+    Some(end)
+}
+
+/// Whether a line that is trimmed is a field: `@`, letters, `:`.
+pub fn is_field(line: &[u8]) -> bool
+    ensures { result ≡ is_field line.now }
+{
+    key_end(line).is_some()
+}
+
+/// Whether a line is a field, without the blanks at its start and at its end.
+pub fn is_field_line(line: &[u8]) -> bool
+    ensures { result ≡ is_field_line line.now }
+{
+    is_field(trim_end(&line[blanks_size(line)..]))
+}
+
 /// A field of a line: its key, and its value.
 #[derive(Clone, Copy)]
 pub struct Field<'t> {
@@ -145,13 +177,9 @@ impl<'t> TextLine<'t> {
         ensures { ReadsField (line_of self.entry) result }
     {
         let bytes = self.content.bytes;
-        if !starts_with(bytes, b"@") {
+        let Some(end) = key_end(bytes) else {
             return None;
-        }
-        let end = 1 + Class::Letters.run(&bytes[1..]);
-        if end == 1 || end == bytes.len() || bytes[end] != b':' {
-            return None;
-        }
+        };
         Some(Field {
             key: &bytes[1..end],
             value: self.content.without(end + 1).trim(),

@@ -1,5 +1,5 @@
 -- Records in lent cells, each of `size` words. Assumes nothing.
-use Rattle.std.specs.Prelude.{ℕ, ◌≡◌, ◌+◌, ◌-◌, ◌*◌, List, ◌++◌, ℤ, length, take, drop}
+use Rattle.std.specs.Prelude.{ℕ, ◌≡◌, ◌+◌, ◌-◌, ◌*◌, ◌≤◌, List, ◌++◌, ℤ, length, take, drop}
 use Rattle.rules.specs.Words.{zeros}
 
 -- the cells with these words from `at` on
@@ -21,6 +21,10 @@ changed size f l number = with_record size l number (f (record_at size l number)
 -- all words from one on are 0
 abbrev pub BlankFrom : ℕ → List ℤ → Type 0
 BlankFrom at l = drop at l ≡ zeros (length l - at)
+
+-- record `number` is all 0, where there is room for it
+abbrev pub BlankRecord : ℕ → List ℤ → ℕ → Type 0
+BlankRecord size l number = number * size + size ≤ length l → record_at size l number ≡ zeros size
 
 -- a step on the part from record `from` on
 abbrev pub on_part : ℕ → ℕ → (List ℤ → List ℤ) → List ℤ → List ℤ

@@ -8,6 +8,17 @@ use super::cells::{NOTE, NoRoom, Records};
 use super::note::{BAR_NUMBER, PLACE, TIES};
 use tokens::cut::Place;
 
+// Words, copied.
+// A loop: std's `copy_from_slice` would have the archive for C ask for `memmove`.
+fn copy_words(target: &mut [i32], source: &[i32])
+    requires { length target.old ≡ length source.now }
+    ensures { target.new ≡ source.now }
+{
+    for k in 0..source.len() {
+        target[k] = source[k];
+    }
+}
+
 // A record's words copied into others, with another place and bar, and no ties.
 // That place and bar fit words is asked for: a tuple struct has no ghost field, nor has a number.
 // Slices, of `NOTE` words: `first_chunk_mut` gives an `Option`, whose `None` can't be.
@@ -18,7 +29,7 @@ fn copy_record(target: &mut [i32], source: &[i32], place: Place, bar: u32)
     requires bar { bar < word_limit }
     ensures { target.new ≡ copy_of place.0 bar source.now }
 {
-    target.copy_from_slice(source);
+    copy_words(target, source);
     target[PLACE] = place.0 as i32;
     target[TIES] = 0;
     target[BAR_NUMBER] = bar as i32;
@@ -68,7 +79,7 @@ impl<'a> Records<'a, NOTE> {
     {
         let start = from * NOTE;
         let size = count * NOTE;
-        figure[..size].copy_from_slice(&self.cells[start..start + size]);
+        copy_words(&mut figure[..size], &self.cells[start..start + size]);
     }
 
     // Parameters, here and below: the reader has each of them apart.

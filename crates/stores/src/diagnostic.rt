@@ -109,7 +109,7 @@ impl Value {
 
 impl Diagnostic {
     /// A remark with its place and value.
-    pub(crate) fn new(remark: Remark, at: At, value: Value) -> Diagnostic
+    pub fn new(remark: Remark, at: At, value: Value) -> Diagnostic
         requires at_fits { AtFits at }
         requires value_fits { ValueFits value }
         ensures lent { result ≡

@@ -5,7 +5,8 @@ ghost use Rattle.std.specs.Prelude.{OnOk, OnErr, IsErr};
 ghost use Rattle.rules.specs.Limits.{first_pitch, pitch_size, pitch_capacity, mark_capacity};
 ghost use Rattle.rules.specs.Words.{note_words, pitch_words, power_of_two};
 ghost use Rattle.rules.specs.Stored.{natural};
-ghost use Rattle.stores.specs.Cells.{word_limit, record_at, with_record, changed, BlankFrom};
+ghost use Rattle.stores.specs.Cells.{word_limit, record_at, with_record, changed};
+ghost use Rattle.stores.specs.Cells.{BlankFrom, BlankRecord};
 ghost use Rattle.stores.specs.Notes.{kind_number, length_numbers, heading_of, pitch_of, opened};
 ghost use Rattle.stores.specs.Notes.{number_at, pitched, tie_started, marked, mark_limit};
 
@@ -233,7 +234,7 @@ impl<'a> Records<'a, NOTE> {
         requires place { heading.place.0 < word_limit }
         requires bar { bar < word_limit }
         requires pitch_place { pitch.place.0 < word_limit }
-        requires blank { BlankFrom (self.old.count * NOTE) self.old.cells.now }
+        requires blank { BlankRecord NOTE self.old.cells.now self.old.count }
         ensures same_cells { self.new.cells.ghost_name ≡ self.old.cells.ghost_name }
         ensures full { IsErr result ↔ (length self.old.cells.now < self.old.count * NOTE + NOTE) }
         ensures err { OnErr result (self.new.cells ≡ self.old.cells) }
@@ -242,7 +243,8 @@ impl<'a> Records<'a, NOTE> {
             with_record NOTE self.old.cells.now self.old.count
             (note_words (opened bar (heading_of heading) ends (pitch_of pitch ∷ [])))) }
         ensures counted { OnOk result (self.new.count ≡ self.old.count + 1) }
-        ensures blank { BlankFrom (self.new.count * NOTE) self.new.cells.now }
+        ensures blank { BlankFrom (self.old.count * NOTE) self.old.cells.now →
+            BlankFrom (self.new.count * NOTE) self.new.cells.now }
     {
         self.begin(&heading.words_with(ends, bar, pitch))?;
         Ok(())
@@ -252,7 +254,7 @@ impl<'a> Records<'a, NOTE> {
     pub fn open_rest(&mut self, heading: Heading, bar: u32) -> Result<(), NoRoom>
         requires place { heading.place.0 < word_limit }
         requires bar { bar < word_limit }
-        requires blank { BlankFrom (self.old.count * NOTE) self.old.cells.now }
+        requires blank { BlankRecord NOTE self.old.cells.now self.old.count }
         ensures same_cells { self.new.cells.ghost_name ≡ self.old.cells.ghost_name }
         ensures full { IsErr result ↔ (length self.old.cells.now < self.old.count * NOTE + NOTE) }
         ensures err { OnErr result (self.new.cells ≡ self.old.cells) }
@@ -261,7 +263,8 @@ impl<'a> Records<'a, NOTE> {
             with_record NOTE self.old.cells.now self.old.count
             (note_words (opened bar (heading_of heading) false []))) }
         ensures counted { OnOk result (self.new.count ≡ self.old.count + 1) }
-        ensures blank { BlankFrom (self.new.count * NOTE) self.new.cells.now }
+        ensures blank { BlankFrom (self.old.count * NOTE) self.old.cells.now →
+            BlankFrom (self.new.count * NOTE) self.new.cells.now }
     {
         self.begin(&heading.words(false, bar))?;
         Ok(())

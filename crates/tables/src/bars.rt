@@ -105,7 +105,7 @@ impl<'a> Table for BarTable<'a> {
         self.bars.len()
     }
 
-    fn show<W: Write>(&self, out: &mut W, number: usize) -> io::Result<()> {
+    fn show<W: Write>(&mut self, out: &mut W, number: usize) -> io::Result<()> {
         let Some(bar) = self.bars.get(number) else {
             return Ok(());
         };
@@ -171,10 +171,10 @@ pub fn show_bars<W: Write>(
         out,
         "   bar  notes      clef          key        meter        left           right"
     )?;
-    let table = BarTable {
+    let mut table = BarTable {
         bars,
         notes,
         defaults: unset.before_notes(marks),
     };
-    show_rows(out, &table, "the same, a whole-bar rest each")
+    show_rows(out, &mut table, "the same, a whole-bar rest each")
 }

@@ -1,7 +1,8 @@
 // The third layer: the notes, a row for each record; whole-bar rests that follow each other alike
 // share one.
 use crate::table::{Table, show_rows};
-use marks::lookback::Marks;
+use marks::kind::Kind;
+use marks::lookback::{Mark, Marks};
 use marks::records::{Beam, Note, NoteMark, Notes};
 use rows::columns::Columns;
 use rows::headings::show_heading;
@@ -10,7 +11,8 @@ use std::alloc::Global;
 use std::io::Write;
 use std::{fmt, io};
 use stores::note::{BAR_NUMBER, NoteKind};
-use tokens::kinds::{Figure, Token};
+use tokens::cut::Place;
+use tokens::kinds::Figure;
 use tokens::rhythm::Length;
 
 // Lengths and pitches take so many columns.
@@ -117,19 +119,35 @@ impl<'a> fmt::Display for Notations<'a> {
 
 // ---- rows
 
-/// The notes with the marks that stored them.
+/// The number of the first mark from one number on that has this place or a later one.
+fn mark_at(marks: &[Mark<'_>], from: usize, place: Place) -> usize {
+    match marks.get(from..) {
+        Some(left) => from.saturating_add(
+            left.iter()
+                .take_while(|mark| mark.place.0 < place.0)
+                .count(),
+        ),
+        None => from,
+    }
+}
+
+/// The notes with the marks that stored them, and the number of the mark that stored the note
+/// before, since each mark is passed once for all notes.
 #[derive(Clone, Copy)]
 struct NoteTable<'a, 'd> {
     alloc: Global,
     notes: Notes<'a>,
     marks: &'a Marks<'d>,
+    mark: usize,
 }
 
 impl<'a, 'd> NoteTable<'a, 'd> {
     /// Whether an `f` or an `i` copied the note.
-    fn is_copied(&self, note: Note<'a>) -> bool {
-        match self.marks.at(note.place()) {
-            Some(mark) => matches!(mark.token, Token::Figure(Figure::Repeat | Figure::Bar)),
+    fn is_copied(&mut self, note: Note<'a>) -> bool {
+        let marks = self.marks.as_slice();
+        self.mark = mark_at(marks, self.mark, note.place());
+        match marks.get(self.mark) {
+            Some(mark) => matches!(mark.kind, Kind::Figure(Figure::Repeat | Figure::Bar)),
             None => false,
         }
     }
@@ -140,7 +158,7 @@ impl<'a, 'd> Table for NoteTable<'a, 'd> {
         self.notes.len()
     }
 
-    fn show<W: Write>(&self, out: &mut W, number: usize) -> io::Result<()> {
+    fn show<W: Write>(&mut self, out: &mut W, number: usize) -> io::Result<()> {
         let Some(note) = self.notes.get(number) else {
             return Ok(());
         };
@@ -149,10 +167,8 @@ impl<'a, 'd> Table for NoteTable<'a, 'd> {
         let kind = Term(note.kind());
         let length = Columns(NoteLength(note.length()), LENGTHS);
         let pitches = Columns(Pitches(note), PITCHES);
-        let notations = Notations {
-            note,
-            copied: self.is_copied(note),
-        };
+        let copied = self.is_copied(note);
+        let notations = Notations { note, copied };
         let alloc = self.alloc;
         let row = format!(in alloc;
             "{number:>6}{place:>8}  {kind:<16}{length}{pitches} {notations}"
@@ -187,10 +203,11 @@ pub fn show_notes<W: Write>(
         out,
         "   no.   place  kind            length       pitches         notations"
     )?;
-    let table = NoteTable {
+    let mut table = NoteTable {
         alloc,
         notes,
         marks,
+        mark: 0,
     };
-    show_rows(out, &table, "the same")
+    show_rows(out, &mut table, "the same")
 }

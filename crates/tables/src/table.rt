@@ -8,8 +8,8 @@ use std::io::Write;
 pub(crate) trait Table {
     fn len(&self) -> usize;
 
-    /// The row of a record.
-    fn show<W: Write>(&self, out: &mut W, number: usize) -> io::Result<()>;
+    /// The row of a record. Records are shown in the order of their numbers.
+    fn show<W: Write>(&mut self, out: &mut W, number: usize) -> io::Result<()>;
 
     /// Whether two records are alike, so that a row may stand for both.
     fn are_alike(&self, number: usize, other: usize) -> bool;
@@ -28,7 +28,11 @@ fn end_of_alike<T: Table>(table: &T, number: usize, from: usize, count: usize) -
 
 /// A row for each record; two or more behind one that is like them share a row. Shown numbers count
 /// from 1.
-pub(crate) fn show_rows<T: Table, W: Write>(out: &mut W, table: &T, alike: &str) -> io::Result<()> {
+pub(crate) fn show_rows<T: Table, W: Write>(
+    out: &mut W,
+    table: &mut T,
+    alike: &str,
+) -> io::Result<()> {
     let count = table.len();
     let mut shown = 0;
     // By number: it is shown, and records are compared by theirs.
@@ -36,7 +40,7 @@ pub(crate) fn show_rows<T: Table, W: Write>(out: &mut W, table: &T, alike: &str)
         if shown <= number {
             table.show(out, number)?;
             let next = number + 1;
-            let end = end_of_alike(table, number, next, count);
+            let end = end_of_alike(&*table, number, next, count);
             if 1 < end - next {
                 let first = next + 1;
                 writeln!(out, "{first:>6} to {end}: {alike}")?;

@@ -1,5 +1,5 @@
 -- The numbers of steps, durations and edges. Assumes nothing.
-use Rattle.std.specs.Prelude.{ℕ}
+use Rattle.std.specs.Prelude.{ℕ, Option, Some, None}
 use Rattle.tokens.specs.declared.rhythm.Step.{Step}
 use Rattle.tokens.specs.declared.rhythm.Step.TheVariants as step
 use Rattle.tokens.specs.declared.rhythm.Duration.{Duration}
@@ -29,6 +29,11 @@ duration_number duration.Sixteenth = 6
 duration_number duration.ThirtySecond = 7
 duration_number duration.SixtyFourth = 8
 duration_number duration.HundredTwentyEighth = 9
+
+-- the number of a duration, 10 where there is none
+abbrev pub number_in : Option Duration → ℕ
+number_in (Some d) = duration_number d
+number_in None = 10
 
 -- edges count 0 to 3
 abbrev pub edge_number : Edge → ℕ

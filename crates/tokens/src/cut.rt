@@ -29,7 +29,7 @@ fn longest(rest: &[u8], long: &[u8], short: &[u8]) -> usize
 
 /// The size of the token that begins with a byte, and goes on with some of those behind it.
 #[tactic(auto, unfolding(rules::specs::Cut::token_size, rules::specs::Characters::character_size))]
-fn token_size(first: u8, rest: &[u8]) -> usize
+pub fn token_size(first: u8, rest: &[u8]) -> usize
     ensures size { result ≡ token_size (first ∷ rest.now) }
     ensures some { 0 < result }
     ensures within { result ≤ 1 + length rest.now }

@@ -1,6 +1,7 @@
 // What a token is.
-ghost use Rattle.std.specs.Prelude.{◌≡◌, IsTrue};
-ghost use Rattle.rules.specs.Tokens.{token_of};
+ghost use Rattle.std.specs.Prelude.{◌≡◌, ◌∷◌, false, IsTrue, MatchOption};
+ghost use Rattle.rules.specs.Tokens.{token_of, duration};
+ghost use Rattle.rules.specs.Values.{pattern_of};
 ghost use Rattle.tokens.specs.Whole.{is_whole};
 ghost use Rattle.tokens.specs.Kinds.{token_in};
 
@@ -9,6 +10,7 @@ use crate::cut::Span;
 use crate::numbers::{count_of, whole_bars_of};
 use crate::rhythm::{Accidental, Barline, Octave, Pattern, Step};
 use scan::characters::is_blank;
+use scan::classes::Class;
 
 /// `g`, slashed, or `q`.
 #[derive(Clone, Copy, Debug, PartialEq, Eq)]
@@ -109,8 +111,27 @@ fn decode<'d>(first: u8, value: &'d [u8]) -> Token<'d>
         b'+' => Token::Marking(Marking::Tie),
         b't' => Token::Marking(Marking::Trill),
         b' ' | b'\n' => Token::Blank,
+        b'\t' => Token::Blank,
         _ if is_blank(first, value) => Token::Blank,
         _ => Token::Unknown,
+    }
+}
+
+impl<'d> Token<'d> {
+    /// What the token is that has this first byte and then these bytes, whatever they are. None is a
+    /// digit token with another byte than digits and dots, which has no `Pattern`, and is never cut.
+    #[tactic(auto, using(crate::proofs::KindLaws::wholes))]
+    pub fn new(first: u8, value: &'d [u8]) -> Option<Token<'d>>
+        ensures whole { MatchOption result (is_whole first value.entry.now ≡ false)
+            (λ t. token_in t ≡ token_of first value.entry.now) }
+        ensures digits { MatchOption result
+            (token_of first value.entry.now ≡ duration (pattern_of (first ∷ value.entry.now)))
+            (λ t. IsTrue (is_whole first value.entry.now)) }
+    {
+        if first.is_ascii_digit() && Class::Durations.run(value) < value.len() {
+            return None;
+        }
+        Some(decode(first, value))
     }
 }
 

@@ -40,7 +40,7 @@ fn number_to(limit: u16, digits: &[u8]) -> Option<u16>
 
 /// The number that one or more digits make, 0 to 255.
 #[tactic(auto, unfolding(rules::specs::Values::count_of))]
-pub(crate) fn count_of(digits: &[u8]) -> Option<u8>
+pub fn count_of(digits: &[u8]) -> Option<u8>
     ensures { number_in result ≡ count_of digits.now }
 {
     let number = number_to(MAX_COUNT, digits)?;
@@ -49,7 +49,7 @@ pub(crate) fn count_of(digits: &[u8]) -> Option<u8>
 
 /// The count of an `=` with these digits, 1 to 1,000; no digits mean 1.
 #[tactic(auto, using(crate::proofs::NumberLaws::bar_laws))]
-pub(crate) fn whole_bars_of(digits: &[u8]) -> Option<u16>
+pub fn whole_bars_of(digits: &[u8]) -> Option<u16>
     ensures number { number_in result ≡ whole_bars_of digits.now }
     ensures some { IfSome result (λ n. 1 ≤ n) }
     ensures within { IfSome result (λ n. n ≤ whole_bar_limit) }

@@ -1,5 +1,5 @@
 // What tokens say of pitch and time: steps, octaves, accidentals, barlines, lengths and patterns.
-ghost use Rattle.std.specs.Prelude.{◌≡◌, ◌<◌, ◌≤◌, ◌∷◌, [], take, IsTrue, MatchOption};
+ghost use Rattle.std.specs.Prelude.{◌≡◌, ◌+◌, ◌<◌, ◌≤◌, ◌∷◌, [], length, take, drop, IsTrue, MatchOption};
 ghost use Rattle.rules.specs.Text.{is_digit, is_note_letter, every};
 ghost use Rattle.rules.specs.Cut.{is_duration};
 ghost use Rattle.rules.specs.Tokens.{slashes, colons};
@@ -27,7 +27,7 @@ impl Step {
     ghost use Rattle.tokens.specs.Steps.{step_number};
 
     /// The step of a letter.
-    pub(crate) fn of_letter(letter: u8) -> Step
+    pub fn of_letter(letter: u8) -> Step
         requires { IsTrue (is_note_letter letter) }
         ensures { step_number result ≡ step_of letter }
     {
@@ -95,7 +95,7 @@ impl Octave {
     pub const START: Octave = Octave { number: 4 };
 
     /// A run of `'` sets octave 3 and its size.
-    pub(crate) fn raised(size: usize) -> Option<Octave>
+    pub fn raised(size: usize) -> Option<Octave>
         ensures { octave_in result ≡ raised_octave size }
     {
         if size <= Octave::MAX - 3 {
@@ -108,7 +108,7 @@ impl Octave {
     }
 
     /// A run of `,` sets octave 4 less its size.
-    pub(crate) fn lowered(size: usize) -> Option<Octave>
+    pub fn lowered(size: usize) -> Option<Octave>
         ensures { octave_in result ≡ lowered_octave size }
     {
         if size <= 4 {
@@ -174,24 +174,22 @@ impl Accidental {
     }
 
     /// A run of `x`.
-    pub(crate) fn sharpened(size: usize) -> Accidental
+    pub fn sharpened(size: usize) -> Accidental
         ensures { alter_of result ≡ sharpened size }
     {
-        if size == 1 {
-            Accidental::Sharp
-        } else {
-            Accidental::DoubleSharp
+        match size {
+            1 => Accidental::Sharp,
+            _ => Accidental::DoubleSharp,
         }
     }
 
     /// A run of `b`.
-    pub(crate) fn flattened(size: usize) -> Accidental
+    pub fn flattened(size: usize) -> Accidental
         ensures { alter_of result ≡ flattened size }
     {
-        if size == 1 {
-            Accidental::Flat
-        } else {
-            Accidental::DoubleFlat
+        match size {
+            1 => Accidental::Flat,
+            _ => Accidental::DoubleFlat,
         }
     }
 }
@@ -252,7 +250,7 @@ impl Barline {
     };
 
     /// `/`, `//` and `//:`, by their sizes.
-    pub(crate) fn slashes(size: usize) -> Barline
+    pub fn slashes(size: usize) -> Barline
         ensures { barline_in result ≡ slashes size }
     {
         let (right, left) = match size {
@@ -264,7 +262,7 @@ impl Barline {
     }
 
     /// `://` and `://:`, by their sizes; a lone `:` is none.
-    pub(crate) fn colons(size: usize) -> Option<Barline>
+    pub fn colons(size: usize) -> Option<Barline>
         ensures { MatchOption result (size ≡ 1) (λ b. barline_in b ≡ colons size) }
     {
         let left = match size {
@@ -303,10 +301,41 @@ pub enum Duration {
 }
 
 impl Duration {
-    ghost use Rattle.tokens.specs.Steps.{duration_number};
+    ghost use Rattle.tokens.specs.Steps.{duration_number, number_in};
+
+    /// The duration of a byte, if it is a digit.
+    #[tactic(auto, using(crate::proofs::PatternLaws::no_duration))]
+    pub fn of_byte(byte: u8) -> Option<Duration>
+        ensures { MatchOption result (duration_of byte ≡ 10)
+            (λ d. duration_number d ≡ duration_of byte) }
+    {
+        if byte.is_ascii_digit() {
+            Some(Duration::of_digit(byte))
+        } else {
+            None
+        }
+    }
+
+    /// The first length of a text of any bytes, and what stands behind it: its duration, if its byte
+    /// is a digit, and its dots. Dots before it say nothing; a text of dots alone has no length.
+    // Digit tokens have a `Pattern`; this stands beside it for what is never cut.
+    #[tactic(auto, using(crate::proofs::PatternLaws::no_length))]
+    pub fn split_length(text: &[u8]) -> Option<(Option<Duration>, u8, &[u8])>
+        ensures { MatchOption result (pattern_of text.entry.now ≡ [])
+            (λ l. pattern_of text.entry.now
+            ≡ record { duration = number_in l.0; dots = l.1 } ∷ pattern_of l.2.now) }
+    {
+        let Some((byte, rest)) = behind_dots(text).split_first() else {
+            return None;
+        };
+        let behind = behind_dots(rest);
+        let dots = rest.len() - behind.len();
+        let most = dots.min(Length::MAX_DOTS) as u8;
+        Some((Duration::of_byte(*byte), most, behind))
+    }
 
     /// The duration of a digit.
-    pub(crate) fn of_digit(digit: u8) -> Duration
+    pub fn of_digit(digit: u8) -> Duration
         requires { IsTrue (is_digit digit) }
         ensures { duration_number result ≡ duration_of digit }
     {
@@ -386,6 +415,49 @@ impl Length {
     };
 }
 
+// What stands behind the dots at the start of a text.
+#[tactic(auto, using(scan::proofs::Trims::part_to_end))]
+fn behind_dots(text: &[u8]) -> &[u8]
+    ensures behind { result.now ≡ drop (dots_at text.now) text.now }
+    ensures size { length result.now + dots_at text.now ≡ length text.now }
+{
+    &text[Class::Is(b'.').run(text)..]
+}
+
+/// So many dots at the end of a digit token are cut at once.
+const DOTS: usize = 96;
+
+// Digits and dots without whole chunks of dots at their end.
+fn fewer_dots(rest: &[u8]) -> &[u8]
+    requires { IsTrue (every is_duration rest.now) }
+    ensures whole { IsTrue (every is_duration result.now) }
+    ensures dots { capped (dots_at result.now) ≡ capped (dots_at rest.entry.now) }
+    ensures lengths { pattern_of result.now ≡ pattern_of rest.entry.now }
+{
+    let mut fewer = rest;
+    while DOTS <= fewer.len() && Class::Is(b'.').run(&fewer[fewer.len() - DOTS..]) == DOTS {
+        fewer = &fewer[..fewer.len() - (DOTS - Length::MAX_DOTS)];
+    }
+    fewer
+}
+
+// Digits and dots with three dots at most at their end. It stands apart: few tokens end in more, and
+// the others are the quicker for it.
+#[inline(never)]
+fn three_dots(rest: &[u8]) -> &[u8]
+    requires { IsTrue (every is_duration rest.now) }
+    ensures whole { IsTrue (every is_duration result.now) }
+    ensures dots { capped (dots_at result.now) ≡ capped (dots_at rest.entry.now) }
+    ensures lengths { pattern_of result.now ≡ pattern_of rest.entry.now }
+{
+    let mut few = fewer_dots(rest);
+    // By what is left: std takes a suffix from a slice only once.
+    while few.ends_with(b"....") {
+        few = &few[..few.len() - 1];
+    }
+    few
+}
+
 // Digits and dots without the dots at their end that say nothing: three count, and each turn of a
 // long pattern would pass them all.
 fn few_dots(rest: &[u8]) -> &[u8]
@@ -394,12 +466,11 @@ fn few_dots(rest: &[u8]) -> &[u8]
     ensures dots { capped (dots_at result.now) ≡ capped (dots_at rest.entry.now) }
     ensures lengths { pattern_of result.now ≡ pattern_of rest.entry.now }
 {
-    let mut few = rest;
-    // By what is left: std takes a suffix from a slice only once.
-    while few.ends_with(b"....") {
-        few = &few[..few.len() - 1];
+    if rest.ends_with(b"....") {
+        three_dots(rest)
+    } else {
+        rest
     }
-    few
 }
 
 /// The lengths of a digit token, one at least: its first digit's duration, and the digits and dots
@@ -425,7 +496,7 @@ impl<'d> Pattern<'d> {
     }
 
     /// The pattern of a digit token.
-    pub(crate) fn of_token(digit: u8, rest: &'d [u8]) -> Pattern<'d>
+    pub fn of_token(digit: u8, rest: &'d [u8]) -> Pattern<'d>
         requires digit { IsTrue (is_digit digit) }
         requires whole { IsTrue (every is_duration rest.now) }
         ensures { lengths_of result ≡ pattern_of (digit ∷ rest.entry.now) }
@@ -506,7 +577,28 @@ impl<'d> Kept<'d> {
     ghost use Rattle.tokens.specs.Rhythm.{lengths_of, lengths_with};
 
     /// Keeps the first lengths of a pattern.
+    #[inline(always)]
     fn of(pattern: Pattern<'d>, lengths: &mut [Length; KEPT]) -> Kept<'d>
+        ensures { lengths_with (take result.count lengths.new) result.rest
+            ≡ lengths_of pattern.entry }
+    {
+        // Most digit tokens are one digit.
+        if pattern.rest.is_empty() {
+            lengths[0] = Length {
+                duration: pattern.first,
+                dots: 0,
+            };
+            return Kept {
+                count: 1,
+                rest: Rest { bytes: &[] },
+            };
+        }
+        Kept::of_more(pattern, lengths)
+    }
+
+    /// The same of any pattern. It stands apart, so that `of` is short where it is called.
+    #[inline(never)]
+    fn of_more(pattern: Pattern<'d>, lengths: &mut [Length; KEPT]) -> Kept<'d>
         ensures { lengths_with (take result.count lengths.new) result.rest
             ≡ lengths_of pattern.entry }
     {
@@ -582,17 +674,31 @@ impl<'d> Cycle<'d> {
     }
 
     /// The next length.
+    #[inline(always)]
     pub fn take(&mut self) -> Length
         ensures taken { length_in result ≡ next_length (lengths_left self.old) }
         ensures all { all_lengths self.new ≡ all_lengths self.old }
         ensures left { lengths_left self.new
             ≡ lengths_after (all_lengths self.old) (lengths_left self.old) }
     {
-        let length = self.peek();
         if self.index < self.kept.count {
+            let length = self.lengths[self.index];
             self.index += 1;
             return length;
         }
+        self.take_behind()
+    }
+
+    /// The next length where it is none of those kept. It stands apart: few patterns are so long.
+    #[inline(never)]
+    fn take_behind(&mut self) -> Length
+        requires { self.old.kept.count ≤ self.old.index }
+        ensures taken { length_in result ≡ next_length (lengths_left self.old) }
+        ensures all { all_lengths self.new ≡ all_lengths self.old }
+        ensures left { lengths_left self.new
+            ≡ lengths_after (all_lengths self.old) (lengths_left self.old) }
+    {
+        let length = self.peek();
         match self.next.pattern() {
             Some(next) => self.next = next.behind(),
             None => {

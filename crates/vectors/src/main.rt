@@ -4,12 +4,12 @@
 
 ghost use Rattle.std.specs.Prelude.{◌<◌};
 
-mod answer; // answer.rt: an answer of the list, compared with a reading
+mod list; // list.rt: what is left of the list, texts and answers
 
-use answer::{Answer, Differs};
 use cards::read::{CardCounts, read_card};
 use cards::width::TwoBytes;
 use cards::write::write_card;
+use list::{Differs, List};
 use reader::read::{Counts, read};
 use std::alloc::Global;
 use std::io;
@@ -44,39 +44,6 @@ struct Tally {
     diagnostics: u64,
 }
 
-// ---- a text of the list
-
-/// The byte of three octal digits.
-fn octal(first: u8, second: u8, third: u8) -> u8 {
-    ((first & 7) << 6) | ((second & 7) << 3) | (third & 7)
-}
-
-/// A text of the list without its escapes: a `\` with three octal digits is one byte.
-fn unescape(alloc: Global, escaped: &[u8]) -> io::Result<Vec<u8>> {
-    let mut text = Vec::new(alloc);
-    for (backslashes, part) in escaped.split(|byte| *byte == b'\\').enumerate() {
-        match part {
-            [first, second, third, rest @ ..] if 0 < backslashes => {
-                text.push(octal(*first, *second, *third))?;
-                text.extend_from_slice(rest)?;
-            }
-            _ => text.extend_from_slice(part)?,
-        }
-    }
-    Ok(text)
-}
-
-/// A line of the list in two: a text and, behind a tab, its answer.
-fn split_line(line: &[u8]) -> (&[u8], &[u8]) {
-    match line.iter().position(|byte| *byte == b'\t') {
-        Some(tab) => (
-            line.get(..tab).unwrap_or(line),
-            line.get(tab.saturating_add(1)..).unwrap_or(b""),
-        ),
-        None => (line, b""),
-    }
-}
-
 // ---- a reading
 
 /// The first records of words, so many.
@@ -87,16 +54,16 @@ fn first_records<const N: usize>(words: &[i32], count: u32) -> &[[i32; N]]
     records.get(..count as usize).unwrap_or(records)
 }
 
-/// Whether the answer is what came of a text.
+/// Whether the list goes on with what came of a text.
 fn compare(
-    answer: &[u8],
+    list: &[u8],
     text: &[u8],
     outcome: Result<Counts, Stop>,
     notes: &[i32],
     bars: &[i32],
     diagnostics: &[Diagnostic],
 ) -> Result<(), Differs> {
-    let mut answer = Answer::new(answer);
+    let mut answer = List::new(list);
     match outcome {
         Ok(counts) => {
             answer.take_notes(first_records::<NOTE>(notes, counts.notes))?;
@@ -108,7 +75,7 @@ fn compare(
         }
         Err(stop) => answer.take_refusal(stop.refusal)?,
     }
-    answer.end()
+    answer.take_line_end()
 }
 
 // ---- cards
@@ -148,6 +115,20 @@ fn comes_back(counts: Counts, notes: &[i32], bars: &[i32]) -> bool {
 
 // ---- the list replayed
 
+/// A list in two: its first text, behind which its answer begins, up to the end of the answer's
+/// line, and what is behind that line.
+fn split_entry<'l>(list: &'l [u8], answer: &'l [u8]) -> (&'l [u8], &'l [u8]) {
+    let size = answer
+        .iter()
+        .position(|byte| *byte == b'\n')
+        .unwrap_or(answer.len());
+    let begun = list.len().saturating_sub(answer.len());
+    (
+        list.get(..begun.saturating_add(size)).unwrap_or(list),
+        answer.get(size.saturating_add(1)..).unwrap_or(b""),
+    )
+}
+
 impl Tally {
     fn new() -> Tally {
         Tally {
@@ -179,7 +160,7 @@ impl Tally {
     }
 }
 
-/// Replays the lines of the list, each with a text and its answer.
+/// Replays the list: each text, and its answer up to the end of the line.
 fn replay<W: Write>(
     out: &mut W,
     alloc: Global,
@@ -190,13 +171,18 @@ fn replay<W: Write>(
     diagnostics: &mut [Diagnostic],
 ) -> io::Result<Tally> {
     let mut tally = Tally::new();
-    for line in list.split_inclusive(|byte| *byte == b'\n') {
-        let line = line.strip_suffix(b"\n").unwrap_or(line);
-        let (escaped, answer) = split_line(line);
-        let text = unescape(alloc, escaped)?;
+    let mut rest = list;
+    // Each text takes a byte or more of the list.
+    for _ in list {
+        if rest.is_empty() {
+            break;
+        }
+        let mut left = List::new(rest);
+        let text = left.text(alloc)?;
         let text = text.as_slice();
         let outcome = read(text, notes, bars, figure, diagnostics);
-        let same = compare(answer, text, outcome, notes, bars, diagnostics).is_ok();
+        let same = compare(left.rest, text, outcome, notes, bars, diagnostics).is_ok();
+        let (line, next) = split_entry(rest, left.rest);
         if !same {
             out.write_all(b"differs: ")?;
             out.write_all(line)?;
@@ -207,6 +193,7 @@ fn replay<W: Write>(
             Err(_) => false,
         };
         tally.count(outcome, same, card);
+        rest = next;
     }
     Ok(tally)
 }

@@ -215,18 +215,18 @@ impl<'m, 'd> Letter<'m, 'd> {
             let held = held.number;
             write!(out, " holds in octave {held} only")?;
         }
-        let barline = self
-            .before
-            .marks
-            .first_after(other.letter.number, |mark| mark.is_barline());
+        let end = self.before.end;
+        let barline = self.before.marks.first_after(other.letter.number, |mark| {
+            mark.is_barline() || end <= mark.number
+        });
         if let Some(barline) = barline
-            && barline.number < self.before.end
+            && barline.number < end
         {
             if is_elsewhere {
                 out.write_all(b" and")?;
             }
-            let end = End(barline);
-            write!(out, " ended at {end}")?;
+            let barline = End(barline);
+            write!(out, " ended at {barline}")?;
         }
         writeln!(out)
     }

@@ -51,7 +51,7 @@ impl<'a, 'd> Whys<'a, 'd> {
 
     /// The why of a mark, where it is a letter, a rest or an `f` or `i` that copied.
     fn show_mark<W: Write>(self, out: &mut W, mark: Mark<'d>) -> io::Result<()> {
-        match mark.token {
+        match mark.token() {
             Token::Letter(step) => Letter::new(self.marks, mark, step, self.key).show(out),
             Token::Rest => self.show_rest(out, mark),
             Token::WholeBars(Some(count)) => self.show_whole_bars(out, mark, count),

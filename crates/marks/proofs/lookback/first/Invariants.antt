@@ -1,5 +1,5 @@
 use Rattle.std.proofs.Common.{◌≡◌, drop, Bool}
-use Rattle.marks.specs.declared.lookback.Mark.{Mark}
+use Rattle.marks.specs.declared.mark.Mark.{Mark}
 use Rattle.marks.specs.LookBack.{Answers, first_of}
 use Rattle.marks.proofs.lookback.first.Given as goal
 

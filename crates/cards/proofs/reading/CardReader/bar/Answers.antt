@@ -11,7 +11,7 @@ use Rattle.cards.proofs.ReadLaws.{head_key, begun, within}
 use Rattle.cards.proofs.reading.CardReader.bar.Goals as goal
 
 pub bar-requires : goal.bar-requires
-bar-requires g c = head_key (card_head c.in_ok-count.head) (head_sound c.args.self.now ((c.in_ok-count.count, card_head c.in_ok-count.head), c.head.new.self) c.in_ok-count.ensures).1
+bar-requires g c = head_key (card_head c.in_ok-count.head) (head_sound c.args.self.now.left.now ((c.in_ok-count.count, card_head c.in_ok-count.head), c.head.new.self.left.now) c.in_ok-count.ensures).1
 
 pub returns-clause-read : goal.returns-clause-read
 unfolding bar_behind
@@ -21,7 +21,7 @@ returns-clause-read g c =
     let count = c.in_ok-count.count in
     let h = card_head c.in_ok-count.head in
     let v = c.in_ok-notes.ensures.read in
-    let size = (notes_sound form count c.head.new.self (v.list, c.notes.new.self) v.taken).0 in
+    let size = (notes_sound form count c.head.new.self.left.now (v.list, c.notes.new.self.left.now) v.taken).0 in
     let b = c.store.ensures in
     let words = head_words counts.notes count h in
     let old = c.args.bars.now in

@@ -20,7 +20,7 @@ loop-init g c = let n = c.args.notes.now in let b = c.args.bars.now in record {
 pub bar-requires : goal.bar-requires
 bar-requires g c =
     let v = c.loop.invariant.read in
-    let s = bars_sound g.W.PlaceWidth.form c.loop.counter c.args.self.now (v.list, c.loop.self) v.taken in
+    let s = bars_sound g.W.PlaceWidth.form c.loop.counter c.args.self.now.left.now (v.list, c.loop.self.left.now) v.taken in
     (omega (arith, v.bars_are, v.notes_are, s.0, s.2.some_each), omega (arith, v.notes_are, s.2.few))
 
 pub returns-in_err-counts-clause-read : goal.returns-in_err-counts-clause-read
@@ -28,8 +28,8 @@ unfolding bars_taken
 returns-in_err-counts-clause-read g c =
     let form = g.W.PlaceWidth.form in
     let v = c.loop.invariant.read in
-    let one : bar_behind form (note_count v.list) c.loop.self ≡ none = ap (λ k. bar_behind form k c.loop.self) (sym v.notes_are) ∙ c.in_err-counts.ensures.read in
-    let no : bars_taken form c.args.count c.args.self.now ≡ none = stopped (bar_taken form) c.args.count c.loop.counter c.args.self.now (omega arith) v.taken one in
+    let one : bar_behind form (note_count v.list) c.loop.self.left.now ≡ none = ap (λ k. bar_behind form k c.loop.self.left.now) (sym v.notes_are) ∙ c.in_err-counts.ensures.read in
+    let no : bars_taken form c.args.count c.args.self.now.left.now ≡ none = stopped (bar_taken form) c.args.count c.loop.counter c.args.self.now.left.now (omega arith) v.taken one in
     search rules
 
 pub loop-preserved : goal.loop-preserved

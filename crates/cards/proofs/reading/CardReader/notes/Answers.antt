@@ -18,17 +18,17 @@ pub returns-in_err-note-clause-read : goal.returns-in_err-note-clause-read
 unfolding notes_taken
 returns-in_err-note-clause-read g c =
     let form = g.W.PlaceWidth.form in
-    let no : notes_taken form c.args.count c.args.self.now ≡ none = stopped (λ _. note_taken form) c.args.count c.loop.counter c.args.self.now (omega arith) c.loop.invariant.read.taken c.in_err-note.ensures in
+    let no : notes_taken form c.args.count c.args.self.now.left.now ≡ none = stopped (λ _. note_taken form) c.args.count c.loop.counter c.args.self.now.left.now (omega arith) c.loop.invariant.read.taken c.in_err-note.ensures in
     search rules
 
 pub words-requires : goal.words-requires
-words-requires g c = ((note_sound g.W.PlaceWidth.form c.loop.self (card_note c.in_ok-note.note, c.note.new.self) c.in_ok-note.ensures).1, c.requires)
+words-requires g c = ((note_sound g.W.PlaceWidth.form c.loop.self.left.now (card_note c.in_ok-note.note, c.note.new.self.left.now) c.in_ok-note.ensures).1, c.requires)
 
 pub loop-preserved : goal.loop-preserved
 loop-preserved g c =
     let form = g.W.PlaceWidth.form in
     let n = card_note c.in_ok-note.note in
-    let such = (note_sound form c.loop.self (n, c.note.new.self) c.in_ok-note.ensures).1 in
+    let such = (note_sound form c.loop.self.left.now (n, c.note.new.self.left.now) c.in_ok-note.ensures).1 in
     let size = ap length c.words.ensures ∙ length-note-words c.args.number n (such-few form n such) in
     let b = c.begin.ensures in
     let own = begun c.begin.result note_size c.words.result c.loop.notes c.begin.new.self size b.full b.err b.stored b.counted in

@@ -6,6 +6,6 @@ use Rattle.cards.proofs.reading.CardReader.pitches.Given as goal
 
 abbrev pub invariant-loop : goal.invariant-loop
 invariant-loop g l = record {
-  taken : repeated (λ _. pitch_taken g.W.PlaceWidth.form) l.counter l.initial.self ≡ some (card_pitches l.pitches, l.self);
+  taken : repeated (λ _. pitch_taken g.W.PlaceWidth.form) l.counter l.initial.self.left.now ≡ some (card_pitches l.pitches, l.self.left.now);
   counted : l.pitches.count ≡ l.counter;
 }

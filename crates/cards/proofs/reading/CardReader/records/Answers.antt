@@ -15,7 +15,7 @@ returns-clause-read g c =
       list = v.list;
       taken = rw (c.in_ok-byte.ensures, eq-eqb c.in_ok-byte.field-0 form.first same, c.in_ok-count.ensures, lt-ltb 0 c.in_ok-count.count (omega arith), v.taken, done);
       notes_are = v.notes_are;
-      bars_are = v.bars_are ∙ sym (bars_sound form c.in_ok-count.count c.four.new.self (v.list, c.bars.new.self) v.taken).0;
+      bars_are = v.bars_are ∙ sym (bars_sound form c.in_ok-count.count c.four.new.self.left.now (v.list, c.bars.new.self.left.now) v.taken).0;
       notes_stored = v.notes_stored;
       bars_stored = v.bars_stored;
     }

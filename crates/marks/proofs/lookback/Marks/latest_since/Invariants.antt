@@ -1,7 +1,7 @@
 use Rattle.std.proofs.Common.{◌≡◌, take, Bool}
 use Rattle.std.specs.Iterator.Adapters.{rev_source}
 use Rattle.std.specs.Slice.Iter.{iter_rest}
-use Rattle.marks.specs.declared.lookback.Mark.{Mark}
+use Rattle.marks.specs.declared.mark.Mark.{Mark}
 use Rattle.marks.specs.LookBack.{Answers, latest_of}
 use Rattle.marks.proofs.lookback.Marks.latest_since.Given as goal
 

@@ -1,5 +1,10 @@
 use Rattle.std.proofs.Common.{rules}
+use Rattle.rules.specs.Limits.{note_size}
+use Rattle.stores.proofs.Blank.{blank-record}
 use Rattle.reader.proofs.walk.Reader.step.Goals as goal
+
+pub rest-requires-clause-blank : goal.rest-requires-clause-blank
+rest-requires-clause-blank c = blank-record note_size _ _ c.requires.sound.blank
 
 pub returns-in_err-letter-in-Letter-clause-token : goal.returns-in_err-letter-in-Letter-clause-token
 returns-in_err-letter-in-Letter-clause-token c = let h = c.letter.ensures.letter c.args.figure.now in search rules

@@ -3,7 +3,7 @@ use Rattle.rules.specs.Text.{every}
 use Rattle.rules.specs.Cut.{is_duration}
 use Rattle.rules.specs.Values.{capped, dots_at, pattern_of}
 use Rattle.tokens.proofs.DotLaws.{four, ends_in, with_four, with_three, dots_fewer, lengths_fewer, whole_fewer}
-use Rattle.tokens.proofs.rhythm.few_dots.Goals as goal
+use Rattle.tokens.proofs.rhythm.three_dots.Goals as goal
 
 pub loop-few-preserved : goal.loop-few-preserved
 loop-few-preserved c =

@@ -2,7 +2,7 @@ use Rattle.std.proofs.Common.{◌≡◌, IsTrue, length}
 use Rattle.rules.specs.Text.{every}
 use Rattle.rules.specs.Cut.{is_duration}
 use Rattle.rules.specs.Values.{capped, dots_at, pattern_of}
-use Rattle.tokens.proofs.rhythm.few_dots.Given as goal
+use Rattle.tokens.proofs.rhythm.three_dots.Given as goal
 
 abbrev pub invariant-loop-few : goal.invariant-loop-few
 invariant-loop-few l = record {

@@ -1,7 +1,7 @@
 use Rattle.std.proofs.Common.{◌≡◌, ◌∙◌, ℕ, take, ap, rules, arith}
 use Rattle.tokens.specs.Rhythm.{lengths_of, lengths_with}
 use Rattle.tokens.proofs.CycleLaws.{kept_step}
-use Rattle.tokens.proofs.rhythm.Kept.of.Goals as goal
+use Rattle.tokens.proofs.rhythm.Kept.of_more.Goals as goal
 
 pub loop-count-preserved : goal.loop-count-preserved
 loop-count-preserved c = record {
