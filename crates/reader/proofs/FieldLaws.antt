@@ -1,6 +1,9 @@
 -- A field sets and diagnoses what its key says; the lines one after the other. Assumes nothing.
-use Rattle.std.specs.Prelude.{if◌then◌else◌}
+use Rattle.std.specs.Prelude.{if◌then◌else◌, ◌++◌, Option, Some, None, is_some, MatchOption}
 use Rattle.std.specs.List.{list_any, slice_split, onto_first}
+use Rattle.std.proofs.lemmas.Iterator.{YieldsList}
+use Rattle.std.proofs.lemmas.Iterator.Consumers.{YieldsList-from_shown}
+use mathlib.Core.List.{append_assoc}
 use Rattle.std.proofs.Common.{◌≡◌, ℕ, zero, suc, ◌+◌, ◌≤◌, Bool, true, false, ◌&&◌, ◌||◌, cond, List, [], ◌∷◌, length, length-drop, take, drop, eqb, refl, sym, ap, ◌∙◌, subst, arith}
 use native.Mathlib.Numerals.{one-add}
 use mathlib.Core.Bool.{false≢true}
@@ -9,12 +12,14 @@ use Rattle.std.proofs.lemmas.Bool.Decides.{nat_tests}
 use Rattle.std.proofs.Math.Option as math
 use Rattle.rules.specs.Text.{bytes, begins, is_text}
 use Rattle.rules.specs.Values.{clef_of, key_of, meter_of}
+use Rattle.rules.specs.Records
 use Rattle.rules.specs.Records.{◌or◌, given, is_empty, at_line, at_field, Diagnostic}
 use Rattle.rules.specs.Diagnostics.{diagnostic, clef_diagnosed, key_diagnosed, meter_diagnosed}
-use Rattle.rules.specs.Fields.{Line, Field, Fields, field_of, has_field, in_field_form, field_next, field_diagnosed, line_diagnosed, part_value, no_fields, lines_after, lines_of, line_at, line_size, fields_after, lines_diagnosed}
+use Rattle.rules.specs.Fields.{Line, Field, Fields, field_of, is_field, has_field, in_field_form, field_next, field_diagnosed, line_diagnosed, part_value, no_fields, lines_after, lines_of, line_at, line_size, fields_after, lines_diagnosed}
 use Rattle.scan.specs.declared.lines.Lines.{Lines}
 use Rattle.scan.specs.declared.lines.TextLine.{TextLine}
-use Rattle.scan.specs.Lines.{lines_left, line_of, IsFirstLine}
+use Rattle.scan.specs.declared.lines.Field as scan_field
+use Rattle.scan.specs.Lines.{lines_left, line_of, field_in, IsFirstLine, GivesLine, ReadsField}
 use Rattle.scan.specs.FieldLine.{is_field_line}
 use Rattle.scan.proofs.LineLaws.{line_cut}
 use Rattle.stores.specs.declared.diagnostic.Diagnostics.{Diagnostics}
@@ -147,6 +152,70 @@ pub record Taken (text : List ℕ) (lines : Lines) (fields : Fields) (old : Diag
   pub same : new.list.ghost_name ≡ old.list.ghost_name
   pub list : new.list.now ≡ list_after_all old.list.now old.count (lines_diagnosed before)
   pub count : new.count ≡ count_after_all old.count (lines_diagnosed before)
+
+-- ---- the lines as `Lines` gives them one by one, for those who go through it by an iterator's methods
+
+-- those of `before` stand behind
+lines_apart : (skip n o : ℕ) (xs : List ℕ) (before : List Line) → lines_after skip n o xs before ≡ lines_after skip n o xs [] ++ before
+unfolding lines_after
+lines_apart skip n o [] before = refl
+lines_apart zero n o (x ∷ xs) before =
+    let l = line_at n o (x ∷ xs) in
+    let k = line_size (x ∷ xs) in
+    lines_apart k (n + 1) (o + 1) xs (l ∷ before)
+    ∙ sym (ap (λ m. m ++ before) (lines_apart k (n + 1) (o + 1) xs (l ∷ [])) ∙ append_assoc (lines_after k (n + 1) (o + 1) xs []) (l ∷ []) before)
+lines_apart (suc skip) n o (x ∷ xs) before = lines_apart skip n (o + 1) xs before
+
+-- the lines in the other order
+abbrev pub turned : List Line → List Line
+turned [] = []
+turned (l ∷ ls) = turned ls ++ l ∷ []
+
+turned_last : (ls : List Line) (l : Line) → turned (ls ++ l ∷ []) ≡ l ∷ turned ls
+turned_last [] l = refl
+turned_last (x ∷ ls) l = ap (λ m. m ++ x ∷ []) (turned_last ls l)
+
+-- the lines that are left, from the first on
+abbrev first_on : Lines → List Line
+first_on s = turned (lines_left s [])
+
+first_none : (s t : Lines) → GivesLine s None t → length (first_on s) ≡ 0
+first_none s t g = ap (λ l. length (turned l)) (g [])
+
+first_next : (s : Lines) (line : TextLine) (t : Lines) → GivesLine s (Some line) t → first_on s ≡ line_of line ∷ first_on t
+first_next s line t g = ap turned (g.left [] ∙ lines_apart 0 t.number.0 t.rest.start.0 t.rest.bytes.now (line_of line ∷ [])) ∙ turned_last (lines_left t []) (line_of line)
+
+-- `Lines` as a list
+pub lines_yielded : (s : Lines) → YieldsList GivesLine line_of s (first_on s)
+lines_yielded s = YieldsList-from_shown GivesLine line_of first_on first_none first_next s
+
+-- whether a line is a field
+abbrev pub test : Line → Bool
+test l = is_field l.content.bytes
+
+-- whether `field` gives one
+pub field_told : (l : Line) (r : Option scan_field.Field) → ReadsField l r → is_some r ≡ test l
+field_told l r e = by r (is_field l.content.bytes) _ e
+  where
+    by : (r : Option scan_field.Field) (b : Bool) (f : Field) → MatchOption r ((if b then math.some f else math.none) ≡ math.none) (λ g. (if b then math.some f else math.none) ≡ math.some (field_in g)) → is_some r ≡ b
+    by None true f q = let h : ◌≡◌ {A = Bool} true false = ap Records.is_some q in absurd (false≢true (sym h))
+    by None false f q = refl
+    by (Some g) true f q = refl
+    by (Some g) false f q = let h : ◌≡◌ {A = Bool} false true = ap Records.is_some q in absurd (false≢true h)
+
+any_behind : (ls : List Line) (l : Line) → list_any test (ls ++ l ∷ []) ≡ (test l || list_any test ls)
+any_behind [] l = refl
+any_behind (x ∷ ls) l = ap (λ b. test x || b) (any_behind ls l) ∙ swapped (test x) (test l) (list_any test ls)
+  where
+    swapped : (a b c : Bool) → (a || (b || c)) ≡ (b || (a || c))
+    swapped true true c = refl
+    swapped true false c = refl
+    swapped false b c = refl
+
+-- whether any line is a field, in this order or the other
+pub any_turned : (ls : List Line) → list_any test (turned ls) ≡ has_field ls
+any_turned [] = refl
+any_turned (l ∷ ls) = any_behind (turned ls) l ∙ ap (λ b. test l || b) (any_turned ls)
 
 -- ---- the lines, cut at byte 10
 
